@@ -1,5 +1,5 @@
 -- The end of a view: what was read and what is printed then.
-use Rattle.std.proofs.Common.{◌≡◌, ℕ, zero, suc, Bool, true, false, List, [], ◌++◌, length, Option, Some, None, refl, sym, ap, subst, ◌∙◌, append_assoc, append-nil, if◌then◌else◌}
+use Rattle.std.proofs.Common.{◌≡◌, ℕ, zero, suc, Bool, true, false, List, ◌++◌, length, Option, Some, None, refl, sym, ap, subst, ◌∙◌, append_assoc, append-nil, if◌then◌else◌}
 use Rattle.std.specs.Prelude.{IfSome}
 use Rattle.std.specs.Io.KnownBytes.{Appends, Consumes, IsAtEnd}
 use Rattle.std.proofs.KnownBytes.{Appends-trans, Consumes-trans}
@@ -7,21 +7,20 @@ use Rattle.pcap_file.specs.declared.head.Head.{Head}
 use Rattle.rule_book.specs.Text.{last_text}
 use Rattle.rule_book.specs.declared.last.Last.TheVariants.{End}
 use Rattle.run_view.specs.declared.form.Form.{Form}
+use Rattle.run_view.specs.declared.show.Printing.{Printing}
 use Rattle.run_view.specs.declared.tally.Tally.{Tally}
 use Rattle.run_view.specs.declared.viewer.Viewer.{Viewer}
 use Rattle.run_view.specs.declared.words.Asked.{Asked}
-use Rattle.run_view.specs.Eras.{PlainRow}
 use Rattle.run_view.specs.Forms.{heading, is_both}
 use Rattle.run_view.specs.Going.{Going}
 use Rattle.run_view.specs.Items.{AreItems, Item, end_text, firsts, frames_of, lines_of, lines_text, packets_of, turn_at, waits}
 use Rattle.run_view.specs.Printed.{summary_shown}
-use Rattle.run_view.specs.Rows.{table_of}
 use Rattle.run_view.specs.SoFar.{AreWhole, Counts, Ends, SoFar, Whole, closing_shown, turn_in}
 use Rattle.run_view.specs.Summary.{no_eras, with_eras}
-use Rattle.run_view.specs.View.{closing_text, eras_text, has_choice, items_text, second_sides, summary_line, summary_of, view_text_of}
+use Rattle.run_view.specs.Chosen.{has_choice}
+use Rattle.run_view.specs.View.{closing, closing_text, items_text, printed_of, second_sides, summary_of, view_text_of}
 use Rattle.run_view.specs.Viewed.{ViewedAs, report_of}
 use Rattle.run_view.specs.Why.{ToldEnd}
-use Rattle.view_text.specs.Views.{PlainSummary}
 
 -- what a source had left is what was taken to its end
 pub all_taken : (a b : Option (List ℕ)) (bs : List ℕ) → Consumes a b bs → IsAtEnd b → IfSome a (λ xs. xs ≡ bs)
@@ -50,40 +49,29 @@ summary_is form records frames tally head items is_records is_frames counts = λ
 
 -- what is printed at the end
 closing_is : (viewer : Viewer) (asked : Asked) (form : Form) (head : Head) (items : List Item) → viewer.asked ≡ asked → viewer.form ≡ form → viewer.files.count ≡ length (firsts items)
-    → viewer.files.frames.count ≡ length (frames_of items) → Counts viewer.tally head items → closing_shown viewer ≡ closing_text asked form head items
-closing_is viewer asked form head items is form_is count frame_count counts =
-    let C : Asked → PlainSummary → (first second : List (ℕ × PlainRow)) → List ℕ =
-    λ a s first second. if has_choice a then [] else (if a.json then [] else summary_line s) ++ eras_text a.json first second in
+    → viewer.files.frames.count ≡ length (frames_of items) → viewer.printing.records ≡ printed_of asked head items → Counts viewer.tally head items
+    → closing_shown viewer ≡ closing_text asked form head items
+closing_is viewer asked form head items is form_is count frame_count printed counts =
     let summary : summary_shown (is_both viewer.form) viewer.files.count viewer.files.frames.count viewer.tally ≡ summary_of form head items =
     ap (λ (f : Form). summary_shown (is_both f) viewer.files.count viewer.files.frames.count viewer.tally) form_is
     ∙ summary_is form viewer.files.count viewer.files.frames.count viewer.tally head items count frame_count counts in
-    λ i. C (is i) (summary i) (counts.eras i) (counts.second_eras_are i)
-
--- the same where neither a condition nor JSON is asked for
-pub closing_plain : (viewer : Viewer) → has_choice viewer.asked ≡ false → viewer.asked.json ≡ false
-    → closing_shown viewer
-    ≡ summary_line (summary_shown (is_both viewer.form) viewer.files.count viewer.files.frames.count viewer.tally)
-    ++ eras_text false (table_of viewer.tally.eras) (table_of viewer.tally.second_eras)
-closing_plain viewer none plain =
-    let summary = summary_line (summary_shown (is_both viewer.form) viewer.files.count viewer.files.frames.count viewer.tally) in
-    let first = table_of viewer.tally.eras in
-    let second = table_of viewer.tally.second_eras in
-    ap (λ (b : Bool). if b then [] else (if viewer.asked.json then [] else summary) ++ eras_text viewer.asked.json first second) none
-    ∙ ap (λ (b : Bool). (if b then [] else summary) ++ eras_text b first second) plain
+    λ i. closing (is i).print (has_choice (is i)) (printed i) (summary i) (counts.eras i) (counts.second_eras_are i)
 
 -- how the view has changed since its last record
 pub record Closes (viewer last : Viewer) : Type 0 where
   pub asked : last.asked ≡ viewer.asked
   pub form : last.form ≡ viewer.form
   pub tally : last.tally ≡ viewer.tally
+  pub printing : last.printing ≡ viewer.printing
   pub count : last.files.count ≡ viewer.files.count
   pub frame_count : last.files.frames.count ≡ viewer.files.frames.count
 
 pub closing_now : (viewer last : Viewer) (items : List Item) → Closes viewer last → Counts viewer.tally viewer.files.head items → viewer.files.count ≡ length (firsts items)
-    → viewer.files.frames.count ≡ length (frames_of items) → closing_shown last ≡ closing_text viewer.asked viewer.form viewer.files.head items
-closing_now viewer last items closes counted count frame_count =
+    → viewer.files.frames.count ≡ length (frames_of items) → viewer.printing.records ≡ printed_of viewer.asked viewer.files.head items
+    → closing_shown last ≡ closing_text viewer.asked viewer.form viewer.files.head items
+closing_now viewer last items closes counted count frame_count printed =
     let T : Tally → Type 0 = λ t. Counts t viewer.files.head items in
-    closing_is last viewer.asked viewer.form viewer.files.head items closes.asked closes.form (closes.count ∙ count) (closes.frame_count ∙ frame_count) (subst T (sym closes.tally) counted)
+    closing_is last viewer.asked viewer.form viewer.files.head items closes.asked closes.form (closes.count ∙ count) (closes.frame_count ∙ frame_count) (ap (λ (p : Printing). p.records) closes.printing ∙ printed) (subst T (sym closes.tally) counted)
 
 first_done : (owed firsts seconds frames : ℕ) → waits owed ≡ false → (turn_at owed firsts seconds frames).done ≡ firsts
 first_done owed firsts seconds frames none = ap (λ (b : Bool). if b then seconds else firsts) none
@@ -113,10 +101,10 @@ pub whole_now : (viewer last : Viewer) (asked : Asked) (form : Form) (head writt
 whole_now viewer last asked form head written before now report left ended printed is_asked is_form is_head closes told end ends prints going =
     let items = going.items in
     let so_far = going.so_far in
-    let closing : closing_shown last ≡ closing_text viewer.asked viewer.form viewer.files.head items = closing_now viewer last items closes so_far.counts so_far.count so_far.frame_count in
+    let closing : closing_shown last ≡ closing_text viewer.asked viewer.form viewer.files.head items = closing_now viewer last items closes so_far.counts so_far.count so_far.frame_count so_far.printing.count in
     let P : List ℕ → Type 0 = λ text. Appends now.printed printed text in
     let text : Appends before.printed printed (view_text_of viewer.asked viewer.form viewer.files.head items) =
-    Appends-trans before.printed now.printed printed (items_text viewer.asked viewer.files.head items) (closing_text viewer.asked viewer.form viewer.files.head items) so_far.text (subst P closing prints) in
+    Appends-trans before.printed now.printed printed (items_text viewer.asked viewer.form viewer.files.head items) (closing_text viewer.asked viewer.form viewer.files.head items) so_far.text (subst P closing prints) in
     let A : Asked → Type 0 = λ a. Appends before.printed printed (view_text_of a viewer.form viewer.files.head items) in
     let F : Form → Type 0 = λ f. Appends before.printed printed (view_text_of asked f viewer.files.head items) in
     let H : Head → Type 0 = λ h. Appends before.printed printed (view_text_of asked form h items) in

@@ -4,24 +4,25 @@ use Rattle.std.specs.Prelude.{IfSome}
 use Rattle.std.specs.Io.KnownBytes.{Consumes}
 use Rattle.std.proofs.lemmas.Bool.{cases_lt}
 use Rattle.std.proofs.lemmas.List.{append_cancel_left}
+use Rattle.edge_io.specs.Faults.{Rose}
 use Rattle.pcap_file.specs.declared.head.Head.{Head}
 use Rattle.pcap_file.specs.Records.{front_of}
 use Rattle.pcap_file.specs.Capture.{IsCapture, ReadsTo}
-use Rattle.pcap_file.proofs.Unique.{capture_one, flaw_no_end, front_of_nothing, same_records}
+use Rattle.pcap_file.proofs.Captures.{capture_one, flaw_no_end, front_of_nothing, same_records}
 use Rattle.capture_input.specs.Inputs.{IsInput, Took}
-use Rattle.capture_input.proofs.Last.{input_has_all}
-use Rattle.capture_input.proofs.Unique.{fault_no_end, input_one}
+use Rattle.capture_input.proofs.Stops.{input_has_all}
+use Rattle.capture_input.proofs.Inputs.{fault_no_end, input_one}
 use Rattle.rule_book.specs.Entries.{PlainEntry}
 use Rattle.rule_book.specs.Reports.{EntryFits, IsEntryOf}
 use Rattle.rule_book.specs.Text.{entry_text, last_text}
 use Rattle.rule_book.specs.declared.last.Last.TheVariants.{End}
 use Rattle.rule_book.proofs.Unique.{entry_no_last, entry_one}
-use Rattle.run_view.specs.Causes.{FaultCounts, FilesStop, IsSomeOctet, SourceRose, HasFrameMore, HasLineAmiss, HasLineMore, HasRecordMore, LacksFrame, LacksRecord, StopsWithin, WhyBefore, WhyBehind, frames_by, sources_of}
+use Rattle.run_view.specs.Causes.{EntriesStop, FaultCounts, FilesStop, HasFrameMore, HasLineAmiss, HasLineMore, HasRecordMore, IsSomeOctet, LacksFrame, LacksRecord, SourceRose, WhyBefore, WhyBehind, frames_by, sources_of}
 use Rattle.run_view.specs.Forms.{answers, heading, version_of}
 use Rattle.run_view.specs.Items.{Item, AreItems, IsFirstLine, IsOfNewest, IsSecondLine, Line, end_text, firsts, frames_of, is_second, lines_of, lines_text, owed_of, packets_in, packets_of, seconds, text_by, turn_at, turn_of, waits}
 use Rattle.run_view.specs.Laws.{AreOfARun, HasFiles, NothingFails, RunsAreViewed}
 use Rattle.run_view.specs.Stops.{status_of}
-use Rattle.run_view.specs.Viewed.{Cause, Moment, faults_of}
+use Rattle.run_view.specs.Viewed.{Cause, Moment, TellsLine, faults_of}
 use Rattle.run_view.specs.Standing.{IsOfOtherLink, OutputHeadFails, TookFrames}
 use Rattle.run_view.specs.Words.{asked_in}
 use Rattle.run_view.specs.declared.form.Form.{Form}
@@ -460,34 +461,43 @@ lines_met report text run_form form (Some behind) (Some l) items is first lines 
     let same : behind ≡ text = append_cancel_left (heading form) behind text (sym first ∙ is ∙ ap (λ f. heading f ++ text) forms) in
     (l, refl, forms, sym lines ∙ same)
 
-within_none : (asked : Asked) (input output report : List ℕ) (printed printed_now : Option (List ℕ)) (rose : Type 0) (stop : Stop) → (rose → ⊥) → AreOfARun input output report
-    → StopsWithin asked (sources_of (Some input) (Some output) (Some report)) printed printed_now rose stop → status_of stop ≡ 8
-within_none asked input output report printed printed_now rose stop none run within =
-    let give = within.stops.give in
-    let met = lines_met report (lines_text (lines_of run.items) ++ end_text run.items) run.form within.form within.behind within.stops.left within.stops.items
-    (run.lines ∙ append_assoc (heading run.form) (lines_text (lines_of run.items)) (end_text run.items)) within.first give.lines in
+within_none : (asked : Asked) (input output report : List ℕ) (form : Form) (head written : Head) (behind printed printed_now : Option (List ℕ))
+    (before now : FaultCounts) (stop : Stop)
+    → (SourceRose before now → ⊥) → (Rose before.out now.out → ⊥) → AreOfARun input output report → Consumes (Some report) behind (heading form)
+    → EntriesStop asked (sources_of (Some input) (Some output) behind) form head written printed printed_now before now stop → status_of stop ≡ 8
+within_none asked input output report form head written behind printed printed_now before now stop none none_out run first (inl unwritten) = absurd (none_out unwritten.rose)
+within_none asked input output report form head written behind printed printed_now before now stop none none_out run first (inr stops) =
+    let give = stops.give in
+    let met = lines_met report (lines_text (lines_of run.items) ++ end_text run.items) run.form form behind stops.left stops.items
+    (run.lines ∙ append_assoc (heading run.form) (lines_text (lines_of run.items)) (end_text run.items)) first give.lines in
     let V : Form → Type 0 = λ f. AreItems f run.items in
-    let W : Option (List ℕ) → Type 0 = λ o. WhyBehind (sources_of (Some input) (Some output) within.behind) within.form within.head within.written within.stops.items o rose stop in
-    behind_none within.form input output met.0 within.stops.items run.items run.head within.head run.written within.written within.behind rose stop none
-    (record { are = give.are; wholes = subst V met.2 run.are; ended = run.none_owed; records = run.records; frames = run.frames; lines = met.3 }) (subst W met.1 within.stops.why)
+    let W : Option (List ℕ) → Type 0 = λ o. WhyBehind (sources_of (Some input) (Some output) behind) form head written stops.items o (SourceRose before now) stop in
+    behind_none form input output met.0 stops.items run.items run.head head run.written written behind (SourceRose before now) stop none
+    (record { are = give.are; wholes = subst V met.2 run.are; ended = run.none_owed; records = run.records; frames = run.frames; lines = met.3 }) (subst W met.1 stops.why)
 
-files_none : (asked : Asked) (input output report : List ℕ) (printed printed_now : Option (List ℕ)) (before now : FaultCounts) (stop : Stop) → (SourceRose before now → ⊥) → AreOfARun input output report
+files_none : (asked : Asked) (input output report : List ℕ) (printed printed_now : Option (List ℕ)) (before now : FaultCounts) (stop : Stop)
+    → (SourceRose before now → ⊥) → (Rose before.out now.out → ⊥) → AreOfARun input output report
     → FilesStop asked (sources_of (Some input) (Some output) (Some report)) printed printed_now before now stop → status_of stop ≡ 8
-files_none asked input output report printed printed_now before now stop none run (inl why) = before_none input output report (SourceRose before now) stop none run why.why
-files_none asked input output report printed printed_now before now stop none run (inr why) = within_none asked input output report printed printed_now (SourceRose before now) stop none run why
+files_none asked input output report printed printed_now before now stop none none_out run (inl why) = before_none input output report (SourceRose before now) stop none run why.why
+files_none asked input output report printed printed_now before now stop none none_out run (inr within) =
+    within_none asked input output report within.form within.head within.written within.behind printed printed_now before now stop none none_out run within.first within.stops
 
 stopped_none : (words : List (List ℕ)) (before now : Moment) (printed : Option (List ℕ)) (stop : Stop) (input output report : List ℕ) (asked : Asked) → asked_in words ≡ Some asked → HasFiles before input output report
     → AreOfARun input output report → NothingFails before now → Cause words before now printed stop → status_of stop ≡ 8
-stopped_none words before now printed stop input output report asked accepted files run nothing (inl unwritten) = absurd (nothing.out unwritten.failed.rose)
-stopped_none words before now printed stop input output report asked accepted files run nothing (inr (inl refused)) = let e = sym refused.none ∙ accepted in cc
-stopped_none words before now printed stop input output report asked accepted files run nothing (inr (inr why)) =
+stopped_none words before now printed stop input output report asked accepted files run nothing (inl refused) = let e = sym refused.none ∙ accepted in cc
+stopped_none words before now printed stop input output report asked accepted files run nothing (inr why) =
     let first = faults_of before in
     let last = faults_of now in
     let I : Option (List ℕ) → Type 0 = λ i. FilesStop why.asked (sources_of i before.output.octets before.report.octets) before.out.octets printed first last stop in
     let O : Option (List ℕ) → Type 0 = λ o. FilesStop why.asked (sources_of (Some input) o before.report.octets) before.out.octets printed first last stop in
     let R : Option (List ℕ) → Type 0 = λ r. FilesStop why.asked (sources_of (Some input) (Some output) r) before.out.octets printed first last stop in
-    files_none why.asked input output report before.out.octets printed first last stop nothing.sources run (subst R files.report_is (subst O files.output_is (subst I files.input_is why.why)))
+    files_none why.asked input output report before.out.octets printed first last stop nothing.sources nothing.out run (subst R files.report_is (subst O files.output_is (subst I files.input_is why.why)))
+
+told_none : (status answered : ℕ) (line : List ℕ) (old new : Option (List ℕ)) (before now : ℕ) → (Rose before now → ⊥)
+    → TellsLine status line old new before now answered → answered ≡ status
+told_none status answered line old new before now none (inl told) = told.status_is
+told_none status answered line old new before now none (inr told) = absurd (none told.cut.rose)
 
 pub runs_are_viewed : RunsAreViewed
 runs_are_viewed words before now status input output report asked accepted files run nothing stopped =
-    stopped.status_is ∙ stopped_none words before now stopped.printed stopped.stop input output report asked accepted files run nothing stopped.cause
+    told_none _ status _ _ _ _ _ nothing.out stopped.told ∙ stopped_none words before now stopped.printed stopped.stop input output report asked accepted files run nothing stopped.cause

@@ -13,11 +13,11 @@ use Rattle.rule_book.specs.declared.entry.Verdict.{Verdict}
 use Rattle.rule_book.specs.declared.last.Last.TheVariants.{End}
 use Rattle.rule_book.specs.declared.rule.Rule.{Rule}
 use Rattle.wire_base.specs.declared.address.Side.{Side}
-use Rattle.rule_book.proofs.Cuts.{has_no}
-use Rattle.rule_book.proofs.Lasts.{last-line}
+use Rattle.rule_book.proofs.Lines.{has_no}
+use Rattle.rule_book.proofs.Entries.{last-line}
 use Rattle.rule_book.proofs.Lines.{IsLine}
-use Rattle.rule_book.proofs.Texts.{entry_text-joined, joined-no_feed, words-solid, words_of}
-use Rattle.rule_book.proofs.Versions.{first-line}
+use Rattle.rule_book.proofs.Entries.{entry_text-joined, joined-no_feed, words-solid, words_of}
+use Rattle.rule_book.proofs.Reports.{first-line}
 use Rattle.rule_book.specs.Words.{joined}
 use Rattle.run_view.specs.declared.form.Form.{Form}
 use Rattle.run_view.specs.declared.form.Form.TheVariants.{Version1, Version2, Both}

@@ -7,6 +7,7 @@ use Rattle.pcap_file.specs.Records.{Packet}
 use Rattle.frame_view.specs.Changes.{plain}
 use Rattle.run_view.specs.declared.item.Frames.{Frames}
 use Rattle.run_view.specs.declared.item.Gathered.{Gathered}
+use Rattle.run_view.specs.declared.item.Wants.{Wants}
 use Rattle.run_view.specs.declared.judged.Kinds.{Kinds}
 use Rattle.run_view.specs.Eras.{plus}
 use Rattle.run_view.specs.Items.{begun_by, changes_at, changes_in, first_flow, flow_at, octets_in, tcp_octets}
@@ -23,11 +24,11 @@ begun_so link octets (next ∷ own) frame = let some : (length (next ∷ own) ==
 
 pub gathered_more : (link : Link) (kinds : Kinds) (octets : List ℕ) (own : List Packet) (packet : Packet) (old new : Gathered) (number : ℕ) (frame : List ℕ) → length own ≡ number → packet.octets ≡ frame
     → map plain new.changes.items ≡ map plain old.changes.items ++ changes_at link kinds (number + 1) octets frame
-    → new.wanted ≡ old.wanted
-    → (old.wanted ≡ true → new.flow ≡ first_flow number (flow_at link frame) old.flow)
-    → (old.wanted ≡ true → new.octets ≡ plus old.octets (tcp_octets (flow_at link frame)))
+    → new.wants ≡ old.wants
+    → (old.wants.flow ≡ true → new.flow ≡ first_flow number (flow_at link frame) old.flow)
+    → (old.wants.octets ≡ true → new.octets ≡ plus old.octets (tcp_octets (flow_at link frame)))
     → IsGathered link kinds octets own old → IsGathered link kinds octets (packet ∷ own) new
-gathered_more link kinds octets own packet old new number frame count same changes wanted flow octets_are before =
+gathered_more link kinds octets own packet old new number frame count same changes wants flow octets_are before =
     record {
       changes =
           changes
@@ -36,15 +37,15 @@ gathered_more link kinds octets own packet old new number frame count same chang
           ∙ ap (λ f. changes_in link kinds octets own ++ changes_at link kinds (length own + 1) octets f) (sym same);
       flow =
           λ is.
-          flow (sym wanted ∙ is)
-          ∙ ap (λ f. first_flow number (flow_at link frame) f) (before.flow (sym wanted ∙ is))
+          flow (ap (λ (w : Wants). w.flow) (sym wants) ∙ is)
+          ∙ ap (λ f. first_flow number (flow_at link frame) f) (before.flow (ap (λ (w : Wants). w.flow) (sym wants) ∙ is))
           ∙ ap (λ n. first_flow n (flow_at link frame) (begun_by link octets own)) (sym count)
           ∙ ap (λ f. first_flow (length own) (flow_at link f) (begun_by link octets own)) (sym same)
           ∙ begun_so link octets own packet;
       octets_are =
           λ is.
-          octets_are (sym wanted ∙ is)
-          ∙ ap (λ n. plus n (tcp_octets (flow_at link frame))) (before.octets_are (sym wanted ∙ is))
+          octets_are (ap (λ (w : Wants). w.octets) (sym wants) ∙ is)
+          ∙ ap (λ n. plus n (tcp_octets (flow_at link frame))) (before.octets_are (ap (λ (w : Wants). w.octets) (sym wants) ∙ is))
           ∙ ap (λ f. plus (octets_in link own) (tcp_octets (flow_at link f))) (sym same);
     }
 

@@ -13,6 +13,8 @@ pub mod Gathering
 pub mod Listing
 pub mod Counting
 pub mod Ons
+pub mod Views
+pub mod Commas
 pub mod Starting
 pub mod Telling
 pub mod EraRows

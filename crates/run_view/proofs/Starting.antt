@@ -1,7 +1,6 @@
 -- The begin of a view.
-use Rattle.std.proofs.Common.{◌≡◌, ℕ, List, [], Option, sym, subst, inl, inr}
-use Rattle.std.specs.Io.KnownBytes.{Consumes}
-use Rattle.std.proofs.KnownBytes.{Appends-nil}
+use Rattle.std.proofs.Common.{◌≡◌, ℕ, List, [], Option, Some, None, refl, sym, ap, subst, ◌∙◌, inl, inr, append-nil}
+use Rattle.std.specs.Io.KnownBytes.{Appends, Consumes}
 use Rattle.pcap_file.specs.declared.head.Head.{Head}
 use Rattle.pcap_file.specs.Reading.{Reading}
 use Rattle.capture_input.specs.declared.input.Input.{Input}
@@ -10,16 +9,21 @@ use Rattle.run_view.specs.declared.form.Form.{Form}
 use Rattle.run_view.specs.declared.line.Lines.{Lines}
 use Rattle.run_view.specs.Ahead.{left_in}
 use Rattle.run_view.specs.Forms.{heading}
+use Rattle.run_view.specs.Items.{waits}
+use Rattle.run_view.specs.View.{opening}
 use Rattle.run_view.specs.declared.viewer.Viewer.{Viewer}
 use Rattle.run_view.specs.declared.words.Asked.{Asked}
-use Rattle.run_view.specs.Causes.{EntriesStop, FaultCounts, SourceRose, StopWhy, StopsBehind, sources_of}
+use Rattle.run_view.specs.Causes.{EntriesStop, FaultCounts, FilesStop, SourceRose, sources_of}
+use Rattle.run_view.specs.Printed.{PrintStops}
 use Rattle.run_view.specs.declared.stop.Stop.{Stop}
+use Rattle.run_view.specs.declared.stop.Stop.TheVariants as stops
 use Rattle.edge_io.specs.Faults.{Rose}
+use Rattle.edge_io.specs.Octets.{AppendsPart}
 use Rattle.run_view.specs.SoFar.{IsFresh, SoFar, Whole, ends_of}
 use Rattle.run_view.specs.Standing.{InputAt, InputOpened, OutputAt}
 use Rattle.run_view.specs.Viewed.{ViewedAs}
 use Rattle.run_view.proofs.Ending.{viewed_as}
-use Rattle.run_view.proofs.Whys.{behind_wider}
+use Rattle.run_view.proofs.Whys.{behind_at, entries_wider}
 
 -- the first line was taken through lines of which none was read yet
 pub first_taken : (fresh read kept : Lines) (report left : Option (List ℕ)) (text : List ℕ) → left_in fresh report ≡ report → kept ≡ read → Consumes (left_in fresh report) (left_in read left) text
@@ -30,10 +34,13 @@ first_taken fresh read kept report left text none same taken =
     subst L (sym same) (subst R none taken)
 
 -- no record was read yet
-pub fresh_so_far : (viewer : Viewer) (asked : Asked) (form : Form) (lines : Lines) (input : Input) (reader : Reading) (read read_left written written_left printed : Option (List ℕ))
+pub fresh_so_far : (viewer : Viewer) (asked : Asked) (form : Form) (lines : Lines) (input : Input) (reader : Reading)
+    (read read_left written written_left printed begun : Option (List ℕ))
     → IsFresh viewer asked form lines input reader → InputOpened input read read_left → OutputAt reader reader.head written written_left []
-    → SoFar viewer reader.head (ends_of read written printed) (ends_of read_left written_left printed) []
-fresh_so_far viewer asked form lines input reader read read_left written written_left printed fresh opened at =
+    → Appends printed begun (opening asked.print)
+    → SoFar viewer reader.head (ends_of read written printed) (ends_of read_left written_left begun) []
+fresh_so_far viewer asked form lines input reader read read_left written written_left printed begun fresh opened at begins =
+    let P : Asked → Type 0 = λ a. Appends printed begun (opening a.print) in
     let H : Head → Type 0 = λ h. InputAt input h read read_left [] in
     let I : Input → Type 0 = λ i. InputAt i viewer.files.head read read_left [] in
     let R : Reading → Type 0 = λ r. OutputAt r reader.head written written_left [] in
@@ -47,7 +54,8 @@ fresh_so_far viewer asked form lines input reader read read_left written written
       owed = fresh.owed;
       newest = tt;
       counts = fresh.counts;
-      text = Appends-nil printed;
+      printing = record { count = fresh.records; lines = λ waiting. let e = sym waiting ∙ ap waits fresh.owed in cc };
+      text = subst P (sym fresh.asked_is) begins;
     }
 
 -- the whole run was viewed as the words ask
@@ -60,20 +68,16 @@ viewed_fresh viewer asked form lines input reader read written printed report be
     let L : Head → Type 0 = λ h. reader.head.link ≡ h.link in
     viewed_as asked form viewer.files.head reader.head read written printed report behind now (subst L (sym fresh.head_is) same) first (subst V fresh.form_is (subst A fresh.asked_is whole))
 
--- a view stops behind the first line of the report, or failed to print
-pub stops_within : (viewer : Viewer) (asked : Asked) (form : Form) (lines : Lines) (input : Input) (reader : Reading) (read written report behind printed printed_now : Option (List ℕ)) (first last : FaultCounts) (wide : FaultCounts) (stop : Stop)
+-- a view stops behind the first line of the report
+pub stops_within : (viewer : Viewer) (asked : Asked) (form : Form) (lines : Lines) (input : Input) (reader : Reading)
+    (read written report behind printed printed_now : Option (List ℕ)) (first last wide : FaultCounts) (stop : Stop)
     → (SourceRose first last → SourceRose wide last) → first.out ≡ wide.out → IsFresh viewer asked form lines input reader → reader.head.link ≡ (head_in input).link → Consumes report behind (heading form)
     → EntriesStop viewer.asked (sources_of read written behind) viewer.form viewer.files.head reader.head printed printed_now first last stop
-    → StopWhy asked (sources_of read written report) printed printed_now wide last stop
-stops_within viewer asked form lines input reader read written report behind printed printed_now first last wide stop wider same_out fresh same taken (inl unwritten) =
-    let R : ℕ → Type 0 = λ n. Rose n last.out in
-    inl (record { stop_is = unwritten.stop_is; failed = record { rose = subst R same_out unwritten.failed.rose; some = unwritten.failed.some } })
-stops_within viewer asked form lines input reader read written report behind printed printed_now first last wide stop wider same_out fresh same taken (inr stops) =
-    let A : Asked → Type 0 = λ a. StopsBehind a (sources_of read written behind) viewer.form viewer.files.head reader.head printed printed_now (SourceRose first last) stop in
-    let V : Form → Type 0 = λ f. StopsBehind asked (sources_of read written behind) f viewer.files.head reader.head printed printed_now (SourceRose first last) stop in
+    → FilesStop asked (sources_of read written report) printed printed_now wide last stop
+stops_within viewer asked form lines input reader read written report behind printed printed_now first last wide stop wider same_out fresh same taken stops =
+    let R : ℕ → Type 0 = λ n. Rose first.out last.out → Rose n last.out in
     let L : Head → Type 0 = λ h. reader.head.link ≡ h.link in
     inr
-    (inr
     (record {
       form = form;
       head = viewer.files.head;
@@ -82,6 +86,61 @@ stops_within viewer asked form lines input reader read written report behind pri
       link_is = subst L (sym fresh.head_is) same;
       first = taken;
       stops =
-          behind_wider asked (sources_of read written behind) form viewer.files.head reader.head printed printed_now (SourceRose first last) (SourceRose wide last) stop wider
-          (subst V fresh.form_is (subst A fresh.asked_is stops));
-    }))
+          entries_wider asked (sources_of read written behind) form viewer.files.head reader.head printed printed_now first last wide last stop wider (subst R same_out (λ rose. rose))
+          (behind_at fresh.asked_is fresh.form_is refl stops);
+    })
+
+-- nothing was taken
+none_taken : (left : Option (List ℕ)) → Consumes left left []
+none_taken None = tt
+none_taken (Some octets) = refl
+
+-- what stands before the first record was not printed
+pub opening_stops : (viewer : Viewer) (asked : Asked) (form : Form) (lines : Lines) (input : Input) (reader : Reading)
+    (read read_left written written_left report behind printed printed_now : Option (List ℕ)) (first last : FaultCounts) (before after : ℕ)
+    (stop : Stop)
+    → (Rose before after → Rose first.out last.out) → IsFresh viewer asked form lines input reader → reader.head.link ≡ (head_in input).link
+    → Consumes report behind (heading form)
+    → InputOpened input read read_left → OutputAt reader reader.head written written_left []
+    → PrintStops printed printed_now before after (opening asked.print) stop
+    → FilesStop asked (sources_of read written report) printed printed_now first last stop
+opening_stops viewer asked form lines input reader read read_left written written_left report behind printed printed_now first last before after stops.Unwritten wider fresh same taken opened at why =
+    let L : Head → Type 0 = λ h. reader.head.link ≡ h.link in
+    let P : List ℕ → Type 0 = λ t. AppendsPart printed printed_now t in
+    let so_far = fresh_so_far viewer asked form lines input reader read read_left written written_left None None fresh opened at tt in
+    inr
+    (record {
+      form = form;
+      head = viewer.files.head;
+      written = reader.head;
+      behind = behind;
+      link_is = subst L (sym fresh.head_is) same;
+      first = taken;
+      stops =
+          inl
+          (record {
+            stop_is = refl;
+            rose = wider why.rose;
+            items = [];
+            left = behind;
+            give =
+                record {
+                  are = tt;
+                  records = record { walk = so_far.input.walk; left = read_left; took = so_far.input.took; packets_are = so_far.input.packets_are };
+                  frames = record { left = written_left; took = so_far.output.took };
+                  lines = none_taken behind;
+                };
+            more = [];
+            part = subst P (sym (append-nil (opening asked.print))) why.part;
+            more_is = inl refl;
+          });
+    })
+opening_stops viewer asked form lines input reader read read_left written written_left report behind printed printed_now first last before after stops.Memory wider fresh same taken opened at why =
+    inl (record { why = tt; text = why })
+opening_stops viewer asked form lines input reader read read_left written written_left report behind printed printed_now first last before after stops.Words wider fresh same taken opened at why = absurd why
+opening_stops viewer asked form lines input reader read read_left written written_left report behind printed printed_now first last before after (stops.Record n) wider fresh same taken opened at why = absurd why
+opening_stops viewer asked form lines input reader read read_left written written_left report behind printed printed_now first last before after (stops.Frame n) wider fresh same taken opened at why = absurd why
+opening_stops viewer asked form lines input reader read read_left written written_left report behind printed printed_now first last before after (stops.Input fault offset) wider fresh same taken opened at why = absurd why
+opening_stops viewer asked form lines input reader read read_left written written_left report behind printed printed_now first last before after (stops.Output fault offset) wider fresh same taken opened at why = absurd why
+opening_stops viewer asked form lines input reader read read_left written written_left report behind printed printed_now first last before after stops.Unread wider fresh same taken opened at why = absurd why
+opening_stops viewer asked form lines input reader read read_left written written_left report behind printed printed_now first last before after (stops.Report n) wider fresh same taken opened at why = absurd why

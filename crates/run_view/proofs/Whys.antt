@@ -21,14 +21,17 @@ use Rattle.run_view.specs.Causes.{AreOver, EntriesStop, FailsAtFrame, FaultCount
 use Rattle.run_view.specs.Forms.{version_of}
 use Rattle.run_view.specs.Going.{Going}
 use Rattle.run_view.specs.Items.{Item, firsts, frames_of, is_second, owed_of, packets_of, seconds, waits}
-use Rattle.run_view.specs.Printed.{AppendsSome, Failed, PartStops, PrintStops}
+use Rattle.run_view.specs.Printed.{Cut, PartStops}
+use Rattle.edge_io.specs.Octets.{AppendsPart}
+use Rattle.edge_io.proofs.Parts.{part_behind}
+use Rattle.run_view.specs.Shows.{due_text}
 use Rattle.run_view.specs.SoFar.{AreWhole, Ends, SoFar, lines_in, turn_in}
 use Rattle.run_view.specs.Standing.{BeginsWithRecords, InputAt, InputStops}
 use Rattle.run_view.specs.Steps.{FramesStop, ItemStops, OwnFails, OwnMissing}
 use Rattle.run_view.specs.View.{closing_text, items_text}
-use Rattle.run_view.specs.Why.{EndStops, FramesGoOn, LineStops, RecordsGoOn, TakeStops, Taking, ToldEnd, Unread}
+use Rattle.run_view.specs.Why.{EndStops, FramesGoOn, LineStops, RecordsGoOn, ToldEnd}
 use Rattle.run_view.proofs.Ending.{all_taken, end_is, none_waits}
-use Rattle.run_view.proofs.Going.{turn_is}
+use Rattle.run_view.proofs.Going.{TakenUnprinted, turn_is}
 use Rattle.run_view.proofs.Standings.{begins_at}
 
 pub rose_within : (a b c d : ℕ) → a ≤ b → c ≤ d → Rose b c → Rose a d
@@ -50,19 +53,14 @@ source_within a b c d ab cd (inr (inr rose)) = inr (inr (rose_within a.report b.
 pub and_none : (a b c : Option (List ℕ)) (text : List ℕ) → Appends a b text → Appends b c [] → Appends a c text
 and_none a b c text first none = let P : List ℕ → Type 0 = λ t. Appends a c t in subst P (append-nil text) (Appends-trans a b c text [] first none)
 
-and_some : (a b c : Option (List ℕ)) (text : List ℕ) → Appends a b text → AppendsSome b c → AppendsSome a c
-and_some a b c text first more = record { octets = text ++ more.octets; given = Appends-trans a b c text more.octets first more.given }
-
-pub failed_then : (a b c : Option (List ℕ)) (text : List ℕ) (before mid now after : ℕ) → Appends a b text → (Rose mid now → Rose before after) → Failed b c mid now → Failed a c before after
-failed_then a b c text before mid now after first wider failed = record { rose = wider failed.rose; some = and_some a b c text first failed.some }
-
 -- the text of the items was printed, and no line behind it
 pub items_alone : (old now : Option (List ℕ)) (items closing : List ℕ) (over : Type 0) → Appends old now items → PrintsBehind old now items closing over
 items_alone old now items closing over text =
     let P : List ℕ → Type 0 = λ t. Appends old now t in record { more = []; rest = closing; given = subst P (sym (append-nil items)) text; closing_is = refl; whole = inl refl; at_end = inl refl }
 
 -- whatever stops a view behind the items, their text was printed
-printed_so : (asked : Asked) (form : Form) (head : Head) (items : List Item) (old now : Option (List ℕ)) (over : Type 0) (stop : Stop) → Appends old now (items_text asked head items) → PrintedBefore asked form head items old now over stop
+printed_so : (asked : Asked) (form : Form) (head : Head) (items : List Item) (old now : Option (List ℕ)) (over : Type 0) (stop : Stop)
+    → Appends old now (items_text asked form head items) → PrintedBefore asked form head items old now over stop
 printed_so asked form head items old now over stops.Words text = text
 printed_so asked form head items old now over (stops.Record n) text = text
 printed_so asked form head items old now over (stops.Frame n) text = text
@@ -70,7 +68,7 @@ printed_so asked form head items old now over (stops.Input fault offset) text = 
 printed_so asked form head items old now over (stops.Output fault offset) text = text
 printed_so asked form head items old now over stops.Unread text = text
 printed_so asked form head items old now over stops.Unwritten text = text
-printed_so asked form head items old now over stops.Memory text = items_alone old now (items_text asked head items) (closing_text asked form head items) over text
+printed_so asked form head items old now over stops.Memory text = items_alone old now (items_text asked form head items) (closing_text asked form head items) over text
 printed_so asked form head items old now over (stops.Report n) text = text
 
 -- what the three sources gave
@@ -158,81 +156,57 @@ frame_fails viewer written before now report left second entry fault offset goin
     record { entry = entry; line = line; record_is = subst R (sym same) record_is; own = own.own; fewer = subst F (sym same) own.fewer; fails = own.fails }
 
 -- why a line was not read
-unread_why : (viewer : Viewer) (written : Head) (before now : Ends) (report left : Option (List ℕ)) (t : Taking) (rose : Type 0) (second : Bool) (stop : Stop) (entry : PlainEntry)
-    → (Rose t.read_before t.read_now → rose) → (Rose t.written_before t.written_now → rose)
+unread_why : (viewer : Viewer) (written : Head) (before now : Ends) (report left : Option (List ℕ))
+    (read_before read_now written_before written_now : ℕ) (rose : Type 0) (second : Bool) (stop : Stop) (entry : PlainEntry)
+    → (Rose read_before read_now → rose) → (Rose written_before written_now → rose)
     → (going : Going viewer written before now report left) → waits (owed_of going.items) ≡ second → HasNextLine viewer.form going.items left entry
-    → LineStops second viewer.files before.read before.written written (packets_of going.items) (frames_of going.items) (frames_by second viewer.form entry) t stop
+    → LineStops second viewer.files before.read before.written written (packets_of going.items) (frames_of going.items)
+    (frames_by second viewer.form entry) read_before read_now written_before written_now stop
     → WhyBehind (sources_of before.read before.written report) viewer.form viewer.files.head written going.items left rose stop
-unread_why viewer written before now report left t rose false stops.Words entry read_rose written_rose going same line why = absurd why
-unread_why viewer written before now report left t rose false (stops.Record n) entry read_rose written_rose going same line why =
+unread_why viewer written before now report left read_before read_now written_before written_now rose false stops.Words entry read_rose written_rose going same line why = absurd why
+unread_why viewer written before now report left read_before read_now written_before written_now rose false (stops.Record n) entry read_rose written_rose going same line why =
     inl (record { entry = entry; line = line; none_owed = none_waits (owed_of going.items) same; whole = why.whole; place = why.place ∙ ap (λ k. k + 1) going.so_far.count })
-unread_why viewer written before now report left t rose false (stops.Frame n) entry read_rose written_rose going same line why =
+unread_why viewer written before now report left read_before read_now written_before written_now rose false (stops.Frame n) entry read_rose written_rose going same line why =
     inl (frame_lacks viewer written before now report left false entry n going same line (record { packet = why.packet; more = why.record_is }) why.missing)
-unread_why viewer written before now report left t rose false (stops.Input fault offset) entry read_rose written_rose going same line why =
+unread_why viewer written before now report left read_before read_now written_before written_now rose false (stops.Input fault offset) entry read_rose written_rose going same line why =
     record { wanted = inl (record { entry = entry; line = line; none_owed = none_waits (owed_of going.items) same }); fails = why }
-unread_why viewer written before now report left t rose false (stops.Output fault offset) entry read_rose written_rose going same line why =
+unread_why viewer written before now report left read_before read_now written_before written_now rose false (stops.Output fault offset) entry read_rose written_rose going same line why =
     inl (frame_fails viewer written before now report left false entry fault offset going same line (record { packet = why.packet; more = why.record_is }) why.fails)
-unread_why viewer written before now report left t rose false stops.Unread entry read_rose written_rose going same line why = either why read_rose written_rose
-unread_why viewer written before now report left t rose false stops.Unwritten entry read_rose written_rose going same line why = absurd why
-unread_why viewer written before now report left t rose false stops.Memory entry read_rose written_rose going same line why = tt
-unread_why viewer written before now report left t rose false (stops.Report n) entry read_rose written_rose going same line why = absurd why
-unread_why viewer written before now report left t rose true stops.Words entry read_rose written_rose going same line why = absurd why
-unread_why viewer written before now report left t rose true (stops.Record n) entry read_rose written_rose going same line why = absurd why
-unread_why viewer written before now report left t rose true (stops.Frame n) entry read_rose written_rose going same line why =
+unread_why viewer written before now report left read_before read_now written_before written_now rose false stops.Unread entry read_rose written_rose going same line why = either why read_rose written_rose
+unread_why viewer written before now report left read_before read_now written_before written_now rose false stops.Unwritten entry read_rose written_rose going same line why = absurd why
+unread_why viewer written before now report left read_before read_now written_before written_now rose false stops.Memory entry read_rose written_rose going same line why = tt
+unread_why viewer written before now report left read_before read_now written_before written_now rose false (stops.Report n) entry read_rose written_rose going same line why = absurd why
+unread_why viewer written before now report left read_before read_now written_before written_now rose true stops.Words entry read_rose written_rose going same line why = absurd why
+unread_why viewer written before now report left read_before read_now written_before written_now rose true (stops.Record n) entry read_rose written_rose going same line why = absurd why
+unread_why viewer written before now report left read_before read_now written_before written_now rose true (stops.Frame n) entry read_rose written_rose going same line why =
     inl (frame_lacks viewer written before now report left true entry n going same line tt why)
-unread_why viewer written before now report left t rose true (stops.Input fault offset) entry read_rose written_rose going same line why = absurd why
-unread_why viewer written before now report left t rose true (stops.Output fault offset) entry read_rose written_rose going same line why =
+unread_why viewer written before now report left read_before read_now written_before written_now rose true (stops.Input fault offset) entry read_rose written_rose going same line why = absurd why
+unread_why viewer written before now report left read_before read_now written_before written_now rose true (stops.Output fault offset) entry read_rose written_rose going same line why =
     inl (frame_fails viewer written before now report left true entry fault offset going same line tt why)
-unread_why viewer written before now report left t rose true stops.Unread entry read_rose written_rose going same line why = written_rose why
-unread_why viewer written before now report left t rose true stops.Unwritten entry read_rose written_rose going same line why = absurd why
-unread_why viewer written before now report left t rose true stops.Memory entry read_rose written_rose going same line why = tt
-unread_why viewer written before now report left t rose true (stops.Report n) entry read_rose written_rose going same line why = absurd why
+unread_why viewer written before now report left read_before read_now written_before written_now rose true stops.Unread entry read_rose written_rose going same line why = written_rose why
+unread_why viewer written before now report left read_before read_now written_before written_now rose true stops.Unwritten entry read_rose written_rose going same line why = absurd why
+unread_why viewer written before now report left read_before read_now written_before written_now rose true stops.Memory entry read_rose written_rose going same line why = tt
+unread_why viewer written before now report left read_before read_now written_before written_now rose true (stops.Report n) entry read_rose written_rose going same line why = absurd why
 
-unread_stops : (viewer : Viewer) (written : Head) (before now : Ends) (report left : Option (List ℕ)) (t : Taking) (rose : Type 0) (second : Bool) (stop : Stop) (entry : PlainEntry)
-    → (Rose t.read_before t.read_now → rose) → (Rose t.written_before t.written_now → rose) → t.printed ≡ now.printed
-    → (going : Going viewer written before now report left) → waits (owed_of going.items) ≡ second → HasNextLine viewer.form going.items left entry
-    → Unread second viewer.files before.read before.written written (packets_of going.items) (frames_of going.items) (frames_by second viewer.form entry) t stop
-    → StopsBehind viewer.asked (sources_of before.read before.written report) viewer.form viewer.files.head written before.printed t.printed_now rose stop
-unread_stops viewer written before now report left t rose second stop entry read_rose written_rose printed_is going same line unread =
-    let P : Option (List ℕ) → Type 0 = λ p. Appends p t.printed_now [] in
-    let text = and_none before.printed now.printed t.printed_now (items_text viewer.asked viewer.files.head going.items) going.so_far.text (subst P printed_is unread.text) in
-    record {
+-- a line was not taken
+pub take_stops : (viewer : Viewer) (written : Head) (before now : Ends) (report left : Option (List ℕ))
+    (read_before read_now written_before written_now : ℕ) (first last : FaultCounts) (stop : Stop) (entry : PlainEntry)
+    → (Rose read_before read_now → SourceRose first last) → (Rose written_before written_now → SourceRose first last)
+    → (going : Going viewer written before now report left) → HasNextLine viewer.form going.items left entry
+    → LineStops (waits viewer.owed) viewer.files before.read before.written written (packets_of going.items) (frames_of going.items)
+    (frames_by (waits viewer.owed) viewer.form entry) read_before read_now written_before written_now stop
+    → EntriesStop viewer.asked (sources_of before.read before.written report) viewer.form viewer.files.head written before.printed now.printed first last stop
+take_stops viewer written before now report left read_before read_now written_before written_now first last stop entry read_rose written_rose going line why =
+    inr
+    (record {
       items = going.items;
       left = left;
       give = gives viewer written before now report left going;
-      why = unread_why viewer written before now report left t rose second stop entry read_rose written_rose going same line unread.why;
-      text = printed_so viewer.asked viewer.form viewer.files.head going.items before.printed t.printed_now _ stop text;
-    }
-
-printed_stops : (viewer : Viewer) (written : Head) (before now : Ends) (report left : Option (List ℕ)) (t : Taking) (first last : FaultCounts) (stop : Stop)
-    → (Rose t.out_before t.out_now → Rose first.out last.out) → t.printed ≡ now.printed → (going : Going viewer written before now report left)
-    → PrintStops t.printed t.printed_now t.out_before t.out_now stop
-    → EntriesStop viewer.asked (sources_of before.read before.written report) viewer.form viewer.files.head written before.printed t.printed_now first last stop
-printed_stops viewer written before now report left t first last stops.Words wider same going why = absurd why
-printed_stops viewer written before now report left t first last (stops.Record n) wider same going why = absurd why
-printed_stops viewer written before now report left t first last (stops.Frame n) wider same going why = absurd why
-printed_stops viewer written before now report left t first last (stops.Input fault offset) wider same going why = absurd why
-printed_stops viewer written before now report left t first last (stops.Output fault offset) wider same going why = absurd why
-printed_stops viewer written before now report left t first last stops.Unread wider same going why = absurd why
-printed_stops viewer written before now report left t first last stops.Unwritten wider same going why =
-    let P : Option (List ℕ) → Type 0 = λ p. Failed p t.printed_now t.out_before t.out_now in
-    inl (record { stop_is = refl; failed = failed_then before.printed now.printed t.printed_now (items_text viewer.asked viewer.files.head going.items) first.out t.out_before t.out_now last.out going.so_far.text wider (subst P same why) })
-printed_stops viewer written before now report left t first last stops.Memory wider same going why =
-    let P : Option (List ℕ) → Type 0 = λ p. Appends p t.printed_now [] in
-    let text = and_none before.printed now.printed t.printed_now (items_text viewer.asked viewer.files.head going.items) going.so_far.text (subst P same why) in
-    inr (record { items = going.items; left = left; give = gives viewer written before now report left going; why = tt; text = items_alone before.printed t.printed_now (items_text viewer.asked viewer.files.head going.items) (closing_text viewer.asked viewer.form viewer.files.head going.items) _ text })
-printed_stops viewer written before now report left t first last (stops.Report n) wider same going why = absurd why
-
--- a line was not taken
-pub take_stops : (viewer : Viewer) (written : Head) (before now : Ends) (report left : Option (List ℕ)) (t : Taking) (first last : FaultCounts) (stop : Stop) (entry : PlainEntry)
-    → (Rose t.read_before t.read_now → SourceRose first last) → (Rose t.written_before t.written_now → SourceRose first last) → (Rose t.out_before t.out_now → Rose first.out last.out)
-    → t.printed ≡ now.printed → (going : Going viewer written before now report left) → HasNextLine viewer.form going.items left entry
-    → TakeStops (waits viewer.owed) viewer.files before.read before.written written (packets_of going.items) (frames_of going.items) (frames_by (waits viewer.owed) viewer.form entry) t stop
-    → EntriesStop viewer.asked (sources_of before.read before.written report) viewer.form viewer.files.head written before.printed t.printed_now first last stop
-take_stops viewer written before now report left t first last stop entry read_rose written_rose wider same going line (inl unread) =
-    inr (unread_stops viewer written before now report left t (SourceRose first last) (waits viewer.owed) stop entry read_rose written_rose same going (ap waits (sym going.so_far.owed)) line unread)
-take_stops viewer written before now report left t first last stop entry read_rose written_rose wider same going line (inr why) =
-    printed_stops viewer written before now report left t first last stop wider same going why
+      why =
+          unread_why viewer written before now report left read_before read_now written_before written_now (SourceRose first last) (waits viewer.owed) stop entry read_rose written_rose going
+          (ap waits (sym going.so_far.owed)) line why;
+      text = printed_so viewer.asked viewer.form viewer.files.head going.items before.printed now.printed _ stop going.so_far.text;
+    })
 
 -- the report is over
 over : (viewer : Viewer) (written : Head) (before now : Ends) (items : List Item) (left ended : Option (List ℕ)) → SoFar viewer written before now items → ToldEnd (turn_in viewer) left ended → TookLast items left ended
@@ -316,9 +290,21 @@ close_stops viewer written before now report left printed text first last mid af
 close_stops viewer written before now report left printed text first last mid after (stops.Output fault offset) wider going is ended why = absurd why
 close_stops viewer written before now report left printed text first last mid after stops.Unread wider going is ended why = absurd why
 close_stops viewer written before now report left printed text first last mid after stops.Unwritten wider going is ended why =
-    inl (record { stop_is = refl; failed = failed_then before.printed now.printed printed (items_text viewer.asked viewer.files.head going.items) first.out mid after last.out going.so_far.text wider why })
+    let items = items_text viewer.asked viewer.form viewer.files.head going.items in
+    let N : List ℕ → Type 0 = λ t. AppendsPart now.printed printed t in
+    inl
+    (record {
+      stop_is = refl;
+      rose = wider why.rose;
+      items = going.items;
+      left = left;
+      give = gives viewer written before now report left going;
+      more = closing_text viewer.asked viewer.form viewer.files.head going.items;
+      part = part_behind before.printed now.printed printed items _ going.so_far.text (subst N is why.part);
+      more_is = inr (refl, ended);
+    })
 close_stops viewer written before now report left printed text first last mid after stops.Memory wider going is ended why =
-    let items = items_text viewer.asked viewer.files.head going.items in
+    let items = items_text viewer.asked viewer.form viewer.files.head going.items in
     inr
     (record {
       items = going.items;
@@ -347,6 +333,33 @@ behind_at {asked} {other} {s} {form} {other_form} {head} {other_head} {written} 
     let H : Head → Type 0 = λ h. EntriesStop other s other_form h written printed printed_now first last stop in
     subst H is_head (subst V is_form (subst A is_asked stops))
 
+-- what is printed with a line was not
+pub due_stops : (old new : Viewer) (written : Head) (before mid : Ends) (report left next printed : Option (List ℕ)) (first last : FaultCounts)
+    (then_ after : ℕ) (stop : Stop)
+    → new.asked ≡ old.asked → new.form ≡ old.form → new.files.head ≡ old.files.head → (Rose then_ after → Rose first.out last.out)
+    → (going : Going old written before mid report left)
+    → TakenUnprinted old new written before mid report next going.items
+    → (stop ≡ stops.Unwritten) × Cut mid.printed printed then_ after (due_text new.printing)
+    → EntriesStop old.asked (sources_of before.read before.written report) old.form old.files.head written before.printed printed first last stop
+due_stops old new written before mid report left next printed first last then_ after stop asked_is form_is head_is wider going taken why =
+    let all = items_text new.asked new.form new.files.head (taken.item ∷ going.items) in
+    let N : List ℕ → Type 0 = λ t. AppendsPart mid.printed printed t in
+    let P : List ℕ → Type 0 = λ t. AppendsPart before.printed printed t in
+    let T : List ℕ → Type 0 = λ t. Appends before.printed mid.printed t in
+    let so_far = subst T (λ i. items_text (sym asked_is i) (sym form_is i) (sym head_is i) going.items) going.so_far.text in
+    behind_at asked_is form_is head_is
+    (inl
+    (record {
+      stop_is = why.0;
+      rose = wider why.1.rose;
+      items = taken.item ∷ going.items;
+      left = next;
+      give = taken.give;
+      more = [];
+      part = subst P (sym (append-nil all)) (part_behind before.printed mid.printed printed (items_text new.asked new.form new.files.head going.items) _ so_far (subst N taken.due why.1.part));
+      more_is = inl refl;
+    }))
+
 -- where other counts are wider
 why_wider : (s : Sources) (form : Form) (head written : Head) (items : List Item) (left : Option (List ℕ)) (rose wide : Type 0) (stop : Stop) → (rose → wide)
     → WhyBehind s form head written items left rose stop → WhyBehind s form head written items left wide stop
@@ -360,16 +373,29 @@ why_wider s form head written items left rose wide stops.Unwritten wider why = w
 why_wider s form head written items left rose wide stops.Memory wider why = why
 why_wider s form head written items left rose wide (stops.Report n) wider why = why
 
-pub behind_wider : (asked : Asked) (s : Sources) (form : Form) (head written : Head) (printed printed_now : Option (List ℕ)) (rose wide : Type 0) (stop : Stop) → (rose → wide)
-    → StopsBehind asked s form head written printed printed_now rose stop → StopsBehind asked s form head written printed printed_now wide stop
-behind_wider asked s form head written printed printed_now rose wide stop wider stops =
-    record { items = stops.items; left = stops.left; give = stops.give; why = why_wider s form head written stops.items stops.left rose wide stop wider stops.why; text = stops.text }
-
 pub entries_wider : (asked : Asked) (s : Sources) (form : Form) (head written : Head) (printed printed_now : Option (List ℕ)) (a b c d : FaultCounts) (stop : Stop) → (SourceRose a b → SourceRose c d) → (Rose a.out b.out → Rose c.out d.out)
     → EntriesStop asked s form head written printed printed_now a b stop → EntriesStop asked s form head written printed printed_now c d stop
 entries_wider asked s form head written printed printed_now a b c d stop source out (inl unwritten) =
-    inl (record { stop_is = unwritten.stop_is; failed = record { rose = out unwritten.failed.rose; some = unwritten.failed.some } })
-entries_wider asked s form head written printed printed_now a b c d stop source out (inr stops) = inr (behind_wider asked s form head written printed printed_now (SourceRose a b) (SourceRose c d) stop source stops)
+    inl
+    (record {
+      stop_is = unwritten.stop_is;
+      rose = out unwritten.rose;
+      items = unwritten.items;
+      left = unwritten.left;
+      give = unwritten.give;
+      more = unwritten.more;
+      part = unwritten.part;
+      more_is = unwritten.more_is;
+    })
+entries_wider asked s form head written printed printed_now a b c d stop source out (inr stops) =
+    inr
+    (record {
+      items = stops.items;
+      left = stops.left;
+      give = stops.give;
+      why = why_wider s form head written stops.items stops.left (SourceRose a b) (SourceRose c d) stop source stops.why;
+      text = stops.text;
+    })
 
 -- a record and its frames
 pub item_by_input : (files : Files) (read written : Option (List ℕ)) (head : Head) (records frames : List Packet) (packets read_before read_now written_before written_now : ℕ) (stop : Stop)

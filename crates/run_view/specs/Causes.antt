@@ -3,6 +3,7 @@
 use Rattle.std.specs.Prelude.{◌≡◌, ◌≢◌, ◌⊎◌, ℕ, ◌+◌, ◌<◌, Bool, true, false, List, [], ◌∷◌, ◌++◌, length, Option, None, IfSome}
 use Rattle.std.specs.Io.KnownBytes.{Appends, Consumes}
 use Rattle.edge_io.specs.Faults.{Rose}
+use Rattle.edge_io.specs.Octets.{AppendsPart}
 use Rattle.pcap_file.specs.declared.head.Head.{Head}
 use Rattle.pcap_file.specs.Records.{Packet}
 use Rattle.pcap_file.specs.Capture.{IsCapture}
@@ -14,7 +15,7 @@ use Rattle.rule_book.specs.Text.{last_text}
 use Rattle.rule_book.specs.declared.last.Last.TheVariants.{End}
 use Rattle.run_view.specs.Forms.{heading, own_frames, version_of}
 use Rattle.run_view.specs.Items.{AreItems, Item, end_text, firsts, frames_of, lines_of, lines_text, owed_of, packets_of, text_by, turn_of, waits}
-use Rattle.run_view.specs.Printed.{AreWholeLines, Failed}
+use Rattle.run_view.specs.Printed.{AreWholeLines}
 use Rattle.run_view.specs.Standing.{BeginsWithFrames, BeginsWithRecords, HaveHeads, InputFailsBehind, InputHeadFails, OutputBeginsAmiss, OutputFailsBehind}
 use Rattle.run_view.specs.View.{closing_text, items_text}
 use Rattle.run_view.specs.declared.form.Form.{Form}
@@ -191,8 +192,8 @@ pub record PrintsBehind (old now : Option (List ℕ)) (items closing : List ℕ)
 -- what was printed before a stop behind these items: their text; if memory could not be allocated, maybe whole lines behind it, the first of those that end
 -- a run with exactly these items, and then the sources are over
 abbrev pub PrintedBefore : (asked : Asked) (form : Form) (head : Head) (items : List Item) (old now : Option (List ℕ)) (over : Type 0) → Stop → Type 0
-PrintedBefore asked form head items old now over stops.Memory = PrintsBehind old now (items_text asked head items) (closing_text asked form head items) over
-PrintedBefore asked form head items old now over _ = Appends old now (items_text asked head items)
+PrintedBefore asked form head items old now over stops.Memory = PrintsBehind old now (items_text asked form head items) (closing_text asked form head items) over
+PrintedBefore asked form head items old now over _ = Appends old now (items_text asked form head items)
 
 -- why a view stops behind these items; `rose` says that a source failed. That memory could not be allocated has no cause in the files.
 abbrev pub WhyBehind : (s : Sources) (form : Form) (head written : Head) (items : List Item) (left : Option (List ℕ)) (rose : Type 0) → Stop → Type 0
@@ -214,6 +215,24 @@ pub record StopsBehind (asked : Asked) (s : Sources) (form : Form) (head written
   pub give : GiveItems s form head written items left
   pub why : WhyBehind s form head written items left rose stop
   pub text : PrintedBefore asked form head items printed printed_now (AreOver s head written items left) stop
+
+-- The output failed, and a prefix of the text of the items that the three sources give was given to it, or of that and what is printed at the end of a run that
+-- has no others, where the sources are over.
+pub record IsUnwritten (asked : Asked) (s : Sources) (form : Form) (head written : Head) (printed printed_now : Option (List ℕ)) (before now : FaultCounts) (stop : Stop) : Type 0 where
+  pub stop_is : stop ≡ stops.Unwritten
+  pub rose : Rose before.out now.out
+  pub items : List Item
+  pub left : Option (List ℕ)
+  pub give : GiveItems s form head written items left
+  pub more : List ℕ
+  pub part : AppendsPart printed printed_now (items_text asked form head items ++ more)
+  pub more_is : (more ≡ []) ⊎ ((more ≡ closing_text asked form head items) × AreOver s head written items left)
+
+-- why a view stops behind the first line of the report, which is read so
+abbrev pub EntriesStop : (asked : Asked) (s : Sources) (form : Form) (head written : Head) (printed printed_now : Option (List ℕ)) (before now : FaultCounts) → Stop → Type 0
+EntriesStop asked s form head written printed printed_now before now stop =
+    IsUnwritten asked s form head written printed printed_now before now stop
+    ⊎ StopsBehind asked s form head written printed printed_now (SourceRose before now) stop
 
 -- the octets do not begin with the first line of a report of one of the forms
 abbrev pub IsNoFirst : (octets : List ℕ) → Type 0
@@ -239,30 +258,16 @@ pub record StopsBefore (s : Sources) (printed printed_now : Option (List ℕ)) (
   pub text : Appends printed printed_now []
 
 -- a view stops behind the first line of the report
-pub record StopsWithin (asked : Asked) (s : Sources) (printed printed_now : Option (List ℕ)) (rose : Type 0) (stop : Stop) : Type 0 where
+pub record StopsWithin (asked : Asked) (s : Sources) (printed printed_now : Option (List ℕ)) (before now : FaultCounts) (stop : Stop) : Type 0 where
   pub form : Form
   pub head : Head
   pub written : Head
   pub behind : Option (List ℕ)
   pub link_is : written.link ≡ head.link
   pub first : Consumes s.report behind (heading form)
-  pub stops : StopsBehind asked (sources_of s.input s.output behind) form head written printed printed_now rose stop
+  pub stops : EntriesStop asked (sources_of s.input s.output behind) form head written printed printed_now before now stop
 
--- the output failed; nothing is claimed of what was printed but that octets were appended
-pub record IsUnwritten (printed printed_now : Option (List ℕ)) (before now : FaultCounts) (stop : Stop) : Type 0 where
-  pub stop_is : stop ≡ stops.Unwritten
-  pub failed : Failed printed printed_now before.out now.out
-
--- why a view stops behind the first line of the report, which is read so
-abbrev pub EntriesStop : (asked : Asked) (s : Sources) (form : Form) (head written : Head) (printed printed_now : Option (List ℕ)) (before now : FaultCounts) → Stop → Type 0
-EntriesStop asked s form head written printed printed_now before now stop =
-    IsUnwritten printed printed_now before now stop ⊎ StopsBehind asked s form head written printed printed_now (SourceRose before now) stop
-
--- why a view whose words were accepted stops otherwise, and what was printed before
+-- why a view stops whose words were accepted, and what was printed before
 abbrev pub FilesStop : (asked : Asked) (s : Sources) (printed printed_now : Option (List ℕ)) (before now : FaultCounts) → Stop → Type 0
 FilesStop asked s printed printed_now before now stop =
-    StopsBefore s printed printed_now (SourceRose before now) stop ⊎ StopsWithin asked s printed printed_now (SourceRose before now) stop
-
--- why a view stops whose words were accepted
-abbrev pub StopWhy : (asked : Asked) (s : Sources) (printed printed_now : Option (List ℕ)) (before now : FaultCounts) → Stop → Type 0
-StopWhy asked s printed printed_now before now stop = IsUnwritten printed printed_now before now stop ⊎ FilesStop asked s printed printed_now before now stop
+    StopsBefore s printed printed_now (SourceRose before now) stop ⊎ StopsWithin asked s printed printed_now before now stop

@@ -1,14 +1,15 @@
 -- The table of eras, each quantity over the whole list of items (this project's profile). Items are a list with the newest at the head.
-use Rattle.std.specs.Prelude.{◌≡◌, ℕ, ◌+◌, ◌-◌, ◌^◌, ◌==◌, List, [], ◌∷◌, ◌++◌, length, map, min, Option, Some, None, if◌then◌else◌}
+use Rattle.std.specs.Prelude.{◌≡◌, ℕ, ◌+◌, ◌-◌, ◌^◌, ◌==◌, Bool, true, false, List, [], ◌∷◌, ◌++◌, length, map, min, Option, Some, None, if◌then◌else◌}
 use Rattle.pcap_file.specs.declared.head.Head.{Head}
 use Rattle.rule_book.specs.Entries.{PlainEntry}
 use Rattle.rule_book.specs.declared.entry.Ended.{Ended}
-use Rattle.rule_book.specs.declared.entry.Reason.{Reason}
 use Rattle.rule_book.specs.declared.rule.Rule.{Rule}
 use Rattle.frame_view.specs.declared.flow.Flow.{Flow}
-use Rattle.run_view.specs.Eras.{PlainRow, with_rules}
+use Rattle.view_text.specs.declared.view.Opened.{Opened}
+use Rattle.run_view.specs.Chosen.{is_number}
+use Rattle.run_view.specs.Eras.{PlainRow, from_outside, opened_by, outside_first, with_rules}
 use Rattle.run_view.specs.Items.{Item, begun_by, by_first, firsts, if_inward, octets_in, seconds, time_of}
-use Rattle.run_view.specs.View.{first_eras, is_number, second_eras}
+use Rattle.run_view.specs.View.{first_eras, second_eras}
 
 -- the items whose record belongs to an era
 abbrev pub own_of : (era : ℕ) → List Item → List Item
@@ -44,34 +45,43 @@ abbrev pub rules_named : List Item → List Rule
 rules_named [] = []
 rules_named (item ∷ older) = rules_named older ++ item.entry.rules
 
--- the packet of the newest item that began an era
-abbrev pub flow_begun : (era : ℕ) → Head → List Item → Option Flow
-flow_begun era head [] = None
-flow_begun era head (item ∷ older) =
-    if is_number item.entry.begun era then begun_by head.link item.packet.octets item.frames else flow_begun era head older
+-- the newest item that began an era
+abbrev pub begun_in : (era : ℕ) → List Item → Option Item
+begun_in era [] = None
+begun_in era (item ∷ older) = if is_number item.entry.begun era then Some item else begun_in era older
+
+-- what its packet says, with the outside host as its source, and how it opened the era
+abbrev pub flow_begun : (second : Bool) → Head → Option Item → Option Flow
+flow_begun second head None = None
+flow_begun second head (Some item) = outside_first (from_outside second item.entry.side) (begun_by head.link item.packet.octets item.frames)
+
+abbrev pub opened_begun : (second : Bool) → Head → Option Item → Option Opened
+opened_begun second head None = None
+opened_begun second head (Some item) = Some (opened_by (from_outside second item.entry.side) (begun_by head.link item.packet.octets item.frames))
 
 -- all eras that ended, in order
 abbrev pub all_ended : List Item → List Ended
 all_ended [] = []
 all_ended (item ∷ older) = all_ended older ++ item.entry.ended
 
--- why an era ended: the last of these, `before` where none is
-abbrev pub last_reason : (era : ℕ) → (before : Option Reason) → List Ended → Option Reason
-last_reason era before [] = before
-last_reason era before (ended ∷ more) = last_reason era (if ended.era == era then Some ended.reason else before) more
+-- how an era ended: the last of these, `before` where none is
+abbrev pub last_end : (era : ℕ) → (before : Option Ended) → List Ended → Option Ended
+last_end era before [] = before
+last_end era before (ended ∷ more) = last_end era (if ended.era == era then Some ended else before) more
 
--- The row of an era in the table of these lines of one engine: the packet that began it last; the times of the first and the last record that belong to it; how
--- many do, and how many octets they brought inwards, both up to 2^64 - 1; the last reason why it ended; and each rule that their entries name, in the order of
+-- The row of an era in the table of these lines of one engine: the packet that began it last, and how; the times of the first and the last record that belong
+-- to it; how many do, and how many octets they brought inwards, both up to 2^64 - 1; how it ended last; and each rule that their entries name, in the order of
 -- first naming.
-abbrev pub row_of : Head → List Item → (era : ℕ) → PlainRow
-row_of head items era =
+abbrev pub row_of : (second : Bool) → Head → List Item → (era : ℕ) → PlainRow
+row_of second head items era =
     record {
-      flow = flow_begun era head items;
+      flow = flow_begun second head (begun_in era items);
+      opened = opened_begun second head (begun_in era items);
       first = first_time head (own_of era items);
       last = last_time head (own_of era items);
       records = within (length (own_of era items));
-      octets = within (octets_sum head (own_of era items));
-      end = last_reason era None (all_ended items);
+      sent = within (octets_sum head (own_of era items));
+      ended = last_end era None (all_ended items);
       rules = with_rules [] (rules_named (own_of era items));
     }
 
@@ -87,7 +97,7 @@ brought_sum era head (item ∷ older) = brought_sum era head older + brought era
 
 -- the row of an era of the first engine: that of its lines, and the octets that the frames of all lines brought inwards in it
 abbrev pub first_row : Head → List Item → (era : ℕ) → PlainRow
-first_row head items era = record (row_of head (firsts items) era) { octets = within (brought_sum era head items) }
+first_row head items era = record (row_of false head (firsts items) era) { sent = within (brought_sum era head items) }
 
 -- one more number, where it is not among these
 abbrev pub with_number : List ℕ → ℕ → List ℕ
@@ -131,7 +141,7 @@ rows_at row (n ∷ ns) = (n, row n) ∷ rows_at row ns
 -- own.
 pub record AreRows (head : Head) (items : List Item) : Type 0 where
   pub first : first_eras head items ≡ rows_at (first_row head items) (with_numbers [] (first_named items))
-  pub second : second_eras head items ≡ rows_at (row_of head (seconds items)) (with_numbers [] (eras_named (seconds items)))
+  pub second : second_eras head items ≡ rows_at (row_of true head (seconds items)) (with_numbers [] (eras_named (seconds items)))
 
 abbrev pub ErasAreRows : Type 0
 ErasAreRows = (head : Head) (items : List Item) → AreRows head items

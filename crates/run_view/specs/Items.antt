@@ -1,6 +1,8 @@
 -- What the three files of a finished run have for each line of its report (this project's profile). Lists have the newest at the head.
-use Rattle.std.specs.Prelude.{◌≡◌, ◌⊎◌, ℕ, zero, suc, ◌+◌, ◌*◌, ◌==◌, Bool, true, false, List, [], ◌∷◌, ◌++◌, length, Option, Some, None, is_some, if◌then◌else◌}
+use Rattle.std.specs.Prelude.{◌≡◌, ◌⊎◌, ℕ, zero, suc, ◌+◌, ◌*◌, ◌==◌, nat_lt, Bool, true, false, List, [], ◌∷◌, ◌++◌, length, Option, Some, None, is_some, if◌then◌else◌}
+use Rattle.wire_base.specs.Frames.{ethertype}
 use Rattle.wire_base.specs.declared.address.Link.{Link}
+use Rattle.wire_base.specs.declared.address.Link.TheVariants.{Ethernet, Raw}
 use Rattle.wire_base.specs.declared.address.Side.{Side}
 use Rattle.wire_base.specs.declared.address.Side.TheVariants.{Inward, Outward}
 use Rattle.pcap_file.specs.declared.head.Head.{Head}
@@ -146,6 +148,16 @@ time_of head packet = nanoseconds head packet.seconds packet.fraction
 -- what the headers of a record or frame say, where an IPv4 header can be read
 unfoldable pub flow_at : Link → (octets : List ℕ) → Option Flow
 flow_at link octets = flow_in link octets
+
+-- the type field of the link header, where that is there
+abbrev pub type_in : Link → (octets : List ℕ) → Option ℕ
+type_in Raw octets = None
+type_in Ethernet octets = if nat_lt (length octets) 14 then None else Some (ethertype octets)
+
+-- the same where no IPv4 header can be read
+abbrev pub type_without : Option Flow → Link → (octets : List ℕ) → Option ℕ
+type_without (Some flow) link octets = None
+type_without None link octets = type_in link octets
 
 -- how many octets its payload has
 unfoldable pub length_at : Link → (octets : List ℕ) → ℕ

@@ -1,3 +1,5 @@
+pub mod Items
+pub mod Chosen
 pub mod Words
 pub mod WordsMet
 pub mod Lines
@@ -8,13 +10,13 @@ pub mod Forms
 pub mod Eras
 pub mod Rows
 pub mod Judged
-pub mod Items
 pub mod Told
 pub mod Summary
 pub mod Steps
 pub mod View
 pub mod EraRows
 pub mod Printed
+pub mod Shows
 pub mod SoFar
 pub mod Causes
 pub mod Ahead

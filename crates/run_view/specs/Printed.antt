@@ -2,6 +2,7 @@
 use Rattle.std.specs.Prelude.{◌≡◌, ◌⊎◌, ℕ, ◌++◌, Bool, List, [], ◌∷◌, map, Option}
 use Rattle.std.specs.Io.KnownBytes.{Appends}
 use Rattle.edge_io.specs.Faults.{Rose}
+use Rattle.edge_io.specs.Octets.{AppendsPart}
 use Rattle.wire_base.specs.declared.address.Link.{Link}
 use Rattle.frame_view.specs.Changes as changes
 use Rattle.rule_book.specs.Entries.{plain}
@@ -11,23 +12,25 @@ use Rattle.run_view.specs.declared.item.Gathered.{Gathered}
 use Rattle.run_view.specs.declared.stop.Stop.{Stop}
 use Rattle.run_view.specs.declared.stop.Stop.TheVariants as stops
 use Rattle.run_view.specs.declared.tally.Tally.{Tally}
-use Rattle.run_view.specs.Items.{flow_at, length_at}
+use Rattle.run_view.specs.Items.{flow_at, length_at, type_without}
 use Rattle.run_view.specs.Rows.{table_of}
 use Rattle.run_view.specs.Summary.{no_eras, with_eras}
 use Rattle.run_view.specs.View.{second_sides}
 
--- what is printed of a line
-abbrev pub record_shown : (second : Bool) (number time : ℕ) → Link → (octets : List ℕ) → Entry → Gathered → PlainRecord
-record_shown second number time link octets entry gathered =
+-- what is printed of a line; so many frames stand before its own
+abbrev pub record_shown : (second given : Bool) (number time : ℕ) → Link → (octets : List ℕ) → Entry → (before : ℕ) → Gathered → PlainRecord
+record_shown second given number time link octets entry before gathered =
     record {
       number = number;
       second = second;
       own = entry.number;
       time = time;
       flow = flow_at link octets;
+      ethertype = type_without (flow_at link octets) link octets;
       length = length_at link octets;
       entry = plain entry;
-      frames = entry.packets;
+      given = given;
+      before = before;
       changes = map changes.plain gathered.changes.items;
     }
 
@@ -43,21 +46,16 @@ summary_shown both records frames tally =
       eras = with_eras (table_of tally.second_eras) (with_eras (table_of tally.eras) no_eras);
     }
 
--- some octets were given to the output, where it tells them
-pub record AppendsSome (old new : Option (List ℕ)) : Type 0 where
-  pub octets : List ℕ
-  pub given : Appends old new octets
-
--- the output failed; nothing is claimed of what was given to it but that octets were appended
-pub record Failed (old new : Option (List ℕ)) (before now : ℕ) : Type 0 where
+-- the output failed, and a prefix of this text was given to it
+pub record Cut (old new : Option (List ℕ)) (before now : ℕ) (text : List ℕ) : Type 0 where
   pub rose : Rose before now
-  pub some : AppendsSome old new
+  pub part : AppendsPart old new text
 
 -- why a text was not printed: the output failed, or memory could not be allocated, and then nothing of it was
-abbrev pub PrintStops : (old new : Option (List ℕ)) (before now : ℕ) → Stop → Type 0
-PrintStops old new before now stops.Unwritten = Failed old new before now
-PrintStops old new before now stops.Memory = Appends old new []
-PrintStops old new before now _ = ⊥
+abbrev pub PrintStops : (old new : Option (List ℕ)) (before now : ℕ) (text : List ℕ) → Stop → Type 0
+PrintStops old new before now text stops.Unwritten = Cut old new before now text
+PrintStops old new before now text stops.Memory = Appends old new []
+PrintStops old new before now text _ = ⊥
 
 -- octets that end with a line feed (10)
 pub record EndsInFeed (octets : List ℕ) : Type 0 where
@@ -78,6 +76,6 @@ pub record PrintsFront (old now : Option (List ℕ)) (text : List ℕ) : Type 0 
 
 -- why a text was not printed whole
 abbrev pub PartStops : (old new : Option (List ℕ)) (before now : ℕ) (text : List ℕ) → Stop → Type 0
-PartStops old new before now text stops.Unwritten = Failed old new before now
+PartStops old new before now text stops.Unwritten = Cut old new before now text
 PartStops old new before now text stops.Memory = PrintsFront old new text
 PartStops old new before now text _ = ⊥

@@ -13,7 +13,16 @@ Eras = IndexMap ℕ EraRow (BuildHasherDefault FoldHasher)
 -- a row in which the rules are a list
 abbrev pub plain_row : EraRow → PlainRow
 plain_row row =
-    record { flow = row.flow; first = row.first; last = row.last; records = row.records; octets = row.octets; end = row.end; rules = row.rules.items }
+    record {
+      flow = row.flow;
+      opened = row.opened;
+      first = row.first;
+      last = row.last;
+      records = row.records;
+      sent = row.sent;
+      ended = row.ended;
+      rules = row.rules.items;
+    }
 
 -- an era with its row
 abbrev pub plain_pair : ℕ × EraRow → ℕ × PlainRow

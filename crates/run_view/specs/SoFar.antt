@@ -1,6 +1,6 @@
 -- How far a view has come (this project's profile). Items are a list with the newest at the head. `read`, `written` and `printed` are what the input and the
 -- output had left and what was printed at first, and the same with `_now` what they have at the moment, where they tell it.
-use Rattle.std.specs.Prelude.{◌≡◌, ℕ, ◌≤◌, ◌<◌, ◌^◌, ◌*◌, ◌+◌, Bool, true, List, [], ◌∷◌, ◌++◌, length, Option, None, IfSome, if◌then◌else◌}
+use Rattle.std.specs.Prelude.{◌≡◌, ℕ, ◌≤◌, ◌<◌, ◌^◌, ◌*◌, ◌+◌, Bool, true, List, [], ◌∷◌, ◌++◌, length, string_bytes, Option, None, IfSome, if◌then◌else◌}
 use Rattle.std.specs.Io.KnownBytes.{Appends}
 use Rattle.pcap_file.specs.declared.head.Head.{Head}
 use Rattle.pcap_file.specs.Records.{Packet}
@@ -11,10 +11,14 @@ use Rattle.run_view.specs.Items.{AreItems, Item, Line, by_first, end_text, first
 use Rattle.run_view.specs.Rows.{table_of}
 use Rattle.run_view.specs.Standing.{InputAt, OutputAt}
 use Rattle.run_view.specs.Printed.{summary_shown}
+use Rattle.run_view.specs.Shows.{due_text}
 use Rattle.run_view.specs.Steps.{Holds, IsReady}
-use Rattle.run_view.specs.View.{eras_text, first_eras, has_choice, items_text, rules_of, second_eras, sides_of, summary_line, view_text_of}
+use Rattle.run_view.specs.Chosen.{has_choice, meets_record, met_of, prints_records}
+use Rattle.run_view.specs.View.{closing, summed, first_eras, items_text, newest_text, printed_of, record_text, rules_of, second_eras, sides_of, view_text_of}
+use Rattle.view_text.specs.declared.view.Format.{Format}
 use Rattle.run_view.specs.declared.form.Form.{Form}
 use Rattle.run_view.specs.declared.line.Lines.{Lines}
+use Rattle.run_view.specs.declared.show.Printing.{Printing}
 use Rattle.run_view.specs.declared.told.Turn.{Turn}
 use Rattle.run_view.specs.declared.words.Asked.{Asked}
 use Rattle.capture_input.specs.declared.input.Input.{Input}
@@ -45,6 +49,16 @@ abbrev pub HoldsNewest : (viewer : Viewer) → List Item → Type 0
 HoldsNewest viewer [] = Unit {0}
 HoldsNewest viewer (newest ∷ older) = waits viewer.owed ≡ true → Holds newest.packet.octets (time_of viewer.files.head newest.packet) (by_first newest) viewer.held
 
+-- of a record of which lines are still to come, what its lines meet and their text are held; the text only where the conditions on the record are met
+pub record HoldsLines (printing : Printing) (asked : Asked) (form : Form) (head : Head) (items : List Item) : Type 0 where
+  pub met : printing.met ≡ met_of asked head items
+  pub text : meets_record (met_of asked head items) ≡ true → string_bytes printing.text ≡ record_text asked form head items
+
+-- so many records are printed, and the lines of one that is not over are held, if records are printed
+pub record PrintsSo (printing : Printing) (asked : Asked) (form : Form) (head : Head) (owed : ℕ) (items : List Item) : Type 0 where
+  pub count : printing.records ≡ printed_of asked head items
+  pub lines : waits owed ≡ true → prints_records asked ≡ true → HoldsLines printing asked form head items
+
 -- these items were read, counted and printed
 pub record SoFar (viewer : Viewer) (head : Head) (before now : Ends) (items : List Item) : Type 0 where
   pub are : AreItems viewer.form items
@@ -56,7 +70,8 @@ pub record SoFar (viewer : Viewer) (head : Head) (before now : Ends) (items : Li
   pub owed : viewer.owed ≡ owed_of items
   pub newest : HoldsNewest viewer items
   pub counts : Counts viewer.tally viewer.files.head items
-  pub text : Appends before.printed now.printed (items_text viewer.asked viewer.files.head items)
+  pub printing : PrintsSo viewer.printing viewer.asked viewer.form viewer.files.head viewer.owed items
+  pub text : Appends before.printed now.printed (items_text viewer.asked viewer.form viewer.files.head items)
 
 -- where the next line of the report stands
 abbrev pub turn_in : Viewer → Turn
@@ -88,11 +103,13 @@ pub record WentOnBy (second : Bool) (old new : Viewer) : Type 0 where
 abbrev pub WentOn : (old new : Viewer) → Type 0
 WentOn old new = WentOnBy (waits old.owed) old new
 
--- one more line was taken, this one
+-- one more line was taken, this one; what is to be printed with it is due
 pub record Taken (viewer : Viewer) (head : Head) (before now : Ends) (items : List Item) (line : Line) : Type 0 where
   pub item : Item
   pub line_is : line_of item ≡ line
-  pub so_far : SoFar viewer head before now (item ∷ items)
+  pub due : due_text viewer.printing ≡ newest_text viewer.asked viewer.form viewer.files.head (item ∷ items)
+  pub so_far : (printed : Option (List ℕ)) → Appends now.printed printed (newest_text viewer.asked viewer.form viewer.files.head (item ∷ items))
+      → SoFar viewer head before (ends_of now.read now.written printed) (item ∷ items)
 
 -- the input and the output are captures of these records and frames
 pub record AreWhole (head written_head : Head) (read written : Option (List ℕ)) (records frames : List Packet) : Type 0 where
@@ -112,15 +129,20 @@ pub record IsFresh (viewer : Viewer) (asked : Asked) (form : Form) (lines : Line
   pub frame_count : viewer.files.frames.count ≡ 0
   pub owed : viewer.owed ≡ 0
   pub counts : Counts viewer.tally viewer.files.head []
+  pub records : viewer.printing.records ≡ 0
   pub ready : IsReady viewer.files
+
+-- the end of a text or of JSON
+abbrev pub summed_shown : Format → Viewer → List ℕ
+summed_shown format viewer =
+    summed format (has_choice viewer.asked) viewer.printing.records
+    (summary_shown (is_both viewer.form) viewer.files.count viewer.files.frames.count viewer.tally) (table_of viewer.tally.eras) (table_of viewer.tally.second_eras)
 
 -- what is printed at the end
 abbrev pub closing_shown : Viewer → List ℕ
 closing_shown viewer =
-    if has_choice viewer.asked then []
-    else
-    (if viewer.asked.json then [] else summary_line (summary_shown (is_both viewer.form) viewer.files.count viewer.files.frames.count viewer.tally))
-    ++ eras_text viewer.asked.json (table_of viewer.tally.eras) (table_of viewer.tally.second_eras)
+    closing viewer.asked.print (has_choice viewer.asked) viewer.printing.records
+    (summary_shown (is_both viewer.form) viewer.files.count viewer.files.frames.count viewer.tally) (table_of viewer.tally.eras) (table_of viewer.tally.second_eras)
 
 -- the three files were read to their end, and all was printed
 pub record Whole (asked : Asked) (form : Form) (head written_head : Head) (before : Ends) (printed_now report : Option (List ℕ)) : Type 0 where

@@ -17,6 +17,7 @@ use Rattle.run_view.specs.declared.item.Files.{Files}
 use Rattle.run_view.specs.declared.item.Frames.{Frames}
 use Rattle.run_view.specs.declared.item.Gathered.{Gathered}
 use Rattle.run_view.specs.declared.item.Held.{Held}
+use Rattle.run_view.specs.declared.item.Wants.{Wants}
 use Rattle.run_view.specs.declared.judged.Kinds.{Kinds}
 use Rattle.run_view.specs.declared.stop.Stop.{Stop}
 use Rattle.run_view.specs.declared.stop.Stop.TheVariants as stops
@@ -53,11 +54,15 @@ pub record Holds (octets : List ℕ) (time : ℕ) (entry : PlainEntry) (held : H
   pub time_is : held.time ≡ time
   pub judged_is : held.judged ≡ judged_by entry
 
+-- what is wanted of a line: the packet where it begins an era, the octets where it is of one
+abbrev pub wants_of : (first : Option ℕ) → PlainEntry → Wants
+wants_of first entry = record { flow = is_some entry.begun; octets = is_of_era first entry }
+
 -- this is gathered of these frames of a record; packet and octets only if they are wanted
 pub record IsGathered (link : Link) (kinds : Kinds) (octets : List ℕ) (own : List Packet) (gathered : Gathered) : Type 0 where
   pub changes : map plain gathered.changes.items ≡ changes_in link kinds octets own
-  pub flow : gathered.wanted ≡ true → gathered.flow ≡ begun_by link octets own
-  pub octets_are : gathered.wanted ≡ true → gathered.octets ≡ octets_in link own
+  pub flow : gathered.wants.flow ≡ true → gathered.flow ≡ begun_by link octets own
+  pub octets_are : gathered.wants.octets ≡ true → gathered.octets ≡ octets_in link own
 
 -- one more frame of a record was read
 pub record FrameAdded (frames : Frames) (all left : Option (List ℕ)) (head : Head) (own older : List Packet) (link : Link) (kinds : Kinds) (octets : List ℕ) (gathered : Gathered) : Type 0 where

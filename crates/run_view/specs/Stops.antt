@@ -1,8 +1,12 @@
 -- Why a run is not viewed to its end: the statuses and the lines (this project's profile).
-use Rattle.std.specs.Prelude.{ℕ, List, [], ◌∷◌, ◌++◌, codes, decimal}
+use Rattle.std.specs.Prelude.{ℕ, Bool, List, [], ◌++◌, Option, Some, None, IsSome, codes, decimal, if◌then◌else◌}
 use Rattle.capture_input.specs.declared.fault.InputFault.{InputFault}
 use Rattle.capture_input.specs.declared.fault.InputFault.TheVariants as faults
 use Rattle.rule_book.specs.Text.{part}
+use Rattle.view_text.specs.Lines.{line_of}
+use Rattle.view_text.specs.Runs.{stop_fields}
+use Rattle.view_text.specs.declared.view.Format.{Format}
+use Rattle.view_text.specs.declared.view.Format.TheVariants.{Json, Text}
 use Rattle.run_view.specs.declared.stop.Stop.{Stop}
 use Rattle.run_view.specs.declared.stop.Stop.TheVariants as stops
 
@@ -40,19 +44,26 @@ status_of stops.Unwritten = 7
 status_of stops.Memory = 8
 status_of (stops.Report line) = 9
 
--- the line of a stop; there is none where the output itself failed
-abbrev pub line_of : Stop → List ℕ
-line_of stops.Words = codes "stop words" ++ 10 ∷ []
-line_of (stops.Record number) = codes "no record" ++ part (decimal number) ++ 10 ∷ []
-line_of (stops.Frame number) = codes "no frame" ++ part (decimal number) ++ 10 ∷ []
-line_of (stops.Input fault offset) = codes "stop in" ++ part (fault_word fault) ++ part (decimal offset) ++ 10 ∷ []
-line_of (stops.Output fault offset) = codes "stop out" ++ part (fault_word fault) ++ part (decimal offset) ++ 10 ∷ []
-line_of stops.Unread = codes "stop read" ++ 10 ∷ []
-line_of stops.Unwritten = []
-line_of stops.Memory = codes "stop memory" ++ 10 ∷ []
-line_of (stops.Report line) = codes "stop report" ++ part (decimal line) ++ 10 ∷ []
+-- the words that say why; there are none where the output itself failed
+abbrev pub reason_of : Stop → Option (List ℕ)
+reason_of stops.Words = Some (codes "stop words")
+reason_of (stops.Record number) = Some (codes "no record" ++ part (decimal number))
+reason_of (stops.Frame number) = Some (codes "no frame" ++ part (decimal number))
+reason_of (stops.Input fault offset) = Some (codes "stop in" ++ part (fault_word fault) ++ part (decimal offset))
+reason_of (stops.Output fault offset) = Some (codes "stop out" ++ part (fault_word fault) ++ part (decimal offset))
+reason_of stops.Unread = Some (codes "stop read")
+reason_of stops.Unwritten = None
+reason_of stops.Memory = Some (codes "stop memory")
+reason_of (stops.Report line) = Some (codes "stop report" ++ part (decimal line))
 
--- a stop has a line, but for that of the output
+-- a stop has a line if it has words
 abbrev pub HasLine : Stop → Type 0
-HasLine stops.Unwritten = ⊥
-HasLine stop = Unit {0}
+HasLine stop = IsSome (reason_of stop)
+
+-- the line of a stop
+abbrev pub stop_line : Format → Stop → List ℕ
+stop_line format stop = elim (reason_of stop) [ Some reason ↦ line_of format (stop_fields (status_of stop) reason) | None ↦ [] ]
+
+-- the format of the line of a stop
+abbrev pub stop_format : (json : Bool) → Format
+stop_format json = if json then Json else Text

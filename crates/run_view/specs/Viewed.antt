@@ -2,8 +2,6 @@
 -- octets; nothing is claimed of it.
 use Rattle.std.specs.Prelude.{◌≡◌, ◌⊎◌, ℕ, List, [], ◌++◌, Option, Some, None, IfSome}
 use Rattle.std.specs.Io.KnownBytes.{Appends}
-use Rattle.edge_io.specs.Faults.{Rose}
-use Rattle.edge_io.specs.Octets.{AppendsPart}
 use Rattle.pcap_file.specs.declared.head.Head.{Head}
 use Rattle.pcap_file.specs.Capture.{IsCapture}
 use Rattle.capture_input.specs.Inputs.{TookAll}
@@ -13,10 +11,11 @@ use Rattle.run_view.specs.declared.words.Asked.{Asked}
 use Rattle.run_view.specs.declared.form.Form.{Form}
 use Rattle.run_view.specs.Forms.{heading}
 use Rattle.run_view.specs.Items.{Item, AreItems, end_text, frames_of, lines_of, lines_text, owed_of, packets_of}
-use Rattle.run_view.specs.Stops.{HasLine, line_of, status_of}
-use Rattle.run_view.specs.Causes.{FaultCounts, FilesStop, IsUnwritten, Sources, counts_of, sources_of}
-use Rattle.run_view.specs.Printed.{AppendsSome}
-use Rattle.run_view.specs.Words.{asked_in}
+use Rattle.run_view.specs.Stops.{HasLine, status_of, stop_format, stop_line}
+use Rattle.view_text.specs.declared.view.Format.{Format}
+use Rattle.run_view.specs.Causes.{FaultCounts, FilesStop, Sources, counts_of, sources_of}
+use Rattle.run_view.specs.Printed.{Cut}
+use Rattle.run_view.specs.Words.{asked_in, asks_json}
 use Rattle.run_view.specs.View.{view_text_of}
 
 -- the text of the report of this form of a finished run with these items
@@ -86,46 +85,38 @@ pub record IsStopped (words : List (List ℕ)) (before now : Moment) (printed : 
   pub accepted : asked_in words ≡ Some asked
   pub why : FilesStop asked (sources_at before) before.out.octets printed (faults_of before) (faults_of now) stop
 
--- Why a run is not viewed to its end, `printed` being what the output holds before the line of the stop: the output failed; or by the words; or, where they are
--- accepted, by the octets of the three sources and the counts of faults.
+-- Why a run is not viewed to its end, `printed` being what the output holds before the line of the stop: by the words; or, where they are accepted, by the octets
+-- of the three sources and the counts of faults.
 abbrev pub Cause : (words : List (List ℕ)) → (before now : Moment) → (printed : Option (List ℕ)) → own.Stop → Type 0
-Cause words before now printed stop =
-    IsUnwritten before.out.octets printed (faults_of before) (faults_of now) stop ⊎ IsRefused words before printed stop ⊎ IsStopped words before now printed stop
+Cause words before now printed stop = IsRefused words before printed stop ⊎ IsStopped words before now printed stop
 
--- the line of a stop was printed last; of an output that failed nothing is claimed but that octets were appended
-abbrev pub PrintsLine : own.Stop → (printed new : Option (List ℕ)) → Type 0
-PrintsLine stops.Unwritten printed new = AppendsSome printed new
-PrintsLine stop printed new = Appends printed new (line_of stop)
+-- the line was printed whole, and its status is returned; or the output failed, which 7 tells, and a prefix of the line was printed
+pub record IsWhole (status : ℕ) (line : List ℕ) (printed new : Option (List ℕ)) (answered : ℕ) : Type 0 where
+  pub status_is : answered ≡ status
+  pub whole : Appends printed new line
 
--- there is a stop with this status whose cause holds, and its line was printed last, unless the output failed, which 7 tells
+pub record IsCut (line : List ℕ) (printed new : Option (List ℕ)) (before now answered : ℕ) : Type 0 where
+  pub status_is : answered ≡ 7
+  pub cut : Cut printed new before now line
+
+-- one of the two
+abbrev pub TellsLine : (status : ℕ) → (line : List ℕ) → (old new : Option (List ℕ)) → (before now answered : ℕ) → Type 0
+TellsLine status line old new before now answered = IsWhole status line old new answered ⊎ IsCut line old new before now answered
+
+-- There is a stop whose cause holds, and its line was told last, as JSON if a word is `--json`. Where the output failed before, there is no line.
 pub record Stopped (words : List (List ℕ)) (before now : Moment) (status : ℕ) : Type 0 where
   pub stop : own.Stop
   pub printed : Option (List ℕ)
   pub cause : Cause words before now printed stop
-  pub status_is : status ≡ status_of stop
-  pub line : PrintsLine stop printed now.out.octets
-
--- the line was printed whole without a fault, and its status is returned
-pub record TellsWhole (status : ℕ) (line : List ℕ) (old new : Option (List ℕ)) (before now answered : ℕ) : Type 0 where
-  pub status_is : answered ≡ status
-  pub whole : Appends old new line
-  pub no_fault : now ≡ before
-
--- the output failed, which 7 tells; a prefix of the line was printed
-pub record TellsPart (line : List ℕ) (old new : Option (List ℕ)) (before now answered : ℕ) : Type 0 where
-  pub status_is : answered ≡ 7
-  pub part : AppendsPart old new line
-  pub failed : Rose before now
-
-abbrev pub TellsLine : (status : ℕ) → (line : List ℕ) → (old new : Option (List ℕ)) → (before now answered : ℕ) → Type 0
-TellsLine status line old new before now answered = TellsWhole status line old new before now answered ⊎ TellsPart line old new before now answered
+  pub told : TellsLine (status_of stop)
+      (stop_line (stop_format (asks_json words)) stop) printed now.out.octets before.out.faults now.out.faults status
 
 -- memory could not be allocated for the line of a stop that has one, which is told in its place
-pub record TellsMemory (stop : own.Stop) (old new : Option (List ℕ)) (before now answered : ℕ) : Type 0 where
+pub record TellsMemory (format : Format) (stop : own.Stop) (old new : Option (List ℕ)) (before now answered : ℕ) : Type 0 where
   pub has_line : HasLine stop
-  pub told : TellsLine 8 (line_of stops.Memory) old new before now answered
+  pub told : TellsLine 8 (stop_line format stops.Memory) old new before now answered
 
 -- the line of the stop was told, or that memory could not be allocated
-abbrev pub Tells : own.Stop → (old new : Option (List ℕ)) → (before now answered : ℕ) → Type 0
-Tells stop old new before now answered =
-    TellsLine (status_of stop) (line_of stop) old new before now answered ⊎ TellsMemory stop old new before now answered
+abbrev pub Tells : Format → own.Stop → (old new : Option (List ℕ)) → (before now answered : ℕ) → Type 0
+Tells format stop old new before now answered =
+    TellsLine (status_of stop) (stop_line format stop) old new before now answered ⊎ TellsMemory format stop old new before now answered

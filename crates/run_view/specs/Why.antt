@@ -1,6 +1,6 @@
 -- Why the functions of a view stop, each by what it reads and prints (this project's profile).
-use Rattle.std.specs.Prelude.{◌≡◌, ◌⊎◌, ℕ, ◌+◌, Bool, true, false, List, [], ◌∷◌, Option, None, IfSome}
-use Rattle.std.specs.Io.KnownBytes.{Appends, Consumes, IsAtEnd}
+use Rattle.std.specs.Prelude.{◌≡◌, ℕ, ◌+◌, Bool, true, false, List, ◌∷◌, Option, None, IfSome}
+use Rattle.std.specs.Io.KnownBytes.{Consumes, IsAtEnd}
 use Rattle.edge_io.specs.Faults.{Rose}
 use Rattle.pcap_file.specs.declared.head.Head.{Head}
 use Rattle.pcap_file.specs.Records.{Packet}
@@ -9,7 +9,6 @@ use Rattle.capture_input.specs.declared.fault.InputFault.{InputFault}
 use Rattle.rule_book.specs.Text.{last_text}
 use Rattle.rule_book.specs.declared.last.Last.TheVariants.{End}
 use Rattle.run_view.specs.Causes.{BeginsAmiss, FaultCounts, IsSomeOctet, SourceRose}
-use Rattle.run_view.specs.Printed.{PrintStops}
 use Rattle.run_view.specs.Standing.{BeginsWithFrames, BeginsWithRecords, InputFailsBehind, InputStops, OutputFailsBehind, OutputStops}
 use Rattle.run_view.specs.Steps.{FramesStop, ItemStops}
 use Rattle.run_view.specs.declared.item.Files.{Files}
@@ -29,44 +28,13 @@ pub record ToldEnd (turn : Turn) (report left : Option (List ℕ)) : Type 0 wher
   pub first : turn.second ≡ false
   pub taken : Consumes report left (last_text (End turn.done turn.frames))
 
--- how often input, output and the program's own output have failed while an item was taken, and what was printed
-pub record Taking : Type 0 where
-  pub read_before : ℕ
-  pub read_now : ℕ
-  pub written_before : ℕ
-  pub written_now : ℕ
-  pub out_before : ℕ
-  pub out_now : ℕ
-  pub printed : Option (List ℕ)
-  pub printed_now : Option (List ℕ)
-
-abbrev pub taking_of : (read_before read_now written_before written_now out_before out_now : ℕ) → (printed printed_now : Option (List ℕ)) → Taking
-taking_of read_before read_now written_before written_now out_before out_now printed printed_now =
-    record {
-      read_before = read_before;
-      read_now = read_now;
-      written_before = written_before;
-      written_now = written_now;
-      out_before = out_before;
-      out_now = out_now;
-      printed = printed;
-      printed_now = printed_now;
-    }
-
 -- why the record and the frames of a line were not read; the record of a line of the second engine was read before
-abbrev pub LineStops : (second : Bool) → (files : Files) (read written : Option (List ℕ)) (head : Head) (records frames : List Packet) (packets : ℕ) (t : Taking) → Stop → Type 0
-LineStops false files read written head records frames packets t stop = ItemStops files read written head records frames packets t.read_before t.read_now t.written_before t.written_now stop
-LineStops true files read written head records frames packets t stop = FramesStop files.frames written head frames packets t.written_before t.written_now stop
-
--- the record and the frames of a line were not read, and nothing was printed
-pub record Unread (second : Bool) (files : Files) (read written : Option (List ℕ)) (head : Head) (records frames : List Packet) (packets : ℕ) (t : Taking) (stop : Stop) : Type 0 where
-  pub why : LineStops second files read written head records frames packets t stop
-  pub text : Appends t.printed t.printed_now []
-
--- why a line was not taken
-abbrev pub TakeStops : (second : Bool) → (files : Files) (read written : Option (List ℕ)) (head : Head) (records frames : List Packet) (packets : ℕ) (t : Taking) (stop : Stop) → Type 0
-TakeStops second files read written head records frames packets t stop =
-    Unread second files read written head records frames packets t stop ⊎ PrintStops t.printed t.printed_now t.out_before t.out_now stop
+abbrev pub LineStops : (second : Bool) → (files : Files) (read written : Option (List ℕ)) (head : Head) (records frames : List Packet)
+    (packets read_before read_now written_before written_now : ℕ) → Stop → Type 0
+LineStops false files read written head records frames packets read_before read_now written_before written_now stop =
+    ItemStops files read written head records frames packets read_before read_now written_before written_now stop
+LineStops true files read written head records frames packets read_before read_now written_before written_now stop =
+    FramesStop files.frames written head frames packets written_before written_now stop
 
 -- octets stand behind the last line of the report
 pub record FoundLine (lines : ℕ) (report : Option (List ℕ)) (line : ℕ) : Type 0 where

@@ -1,21 +1,43 @@
 -- The words of `normview` (this project's profile): options, each at most once, and then the names of three files. A word is the list of its octets.
-use Rattle.std.specs.Prelude.{ℕ, ◌&&◌, true, false, List, [], ◌∷◌, Option, Some, None, is_some, codes, if◌then◌else◌}
+use Rattle.std.specs.Prelude.{ℕ, ◌==◌, ◌&&◌, not, get_or, slice_set, replicate, Bool, true, false, List, [], ◌∷◌, Option, Some, None, is_some, option_map, codes, if◌then◌else◌}
+use Rattle.std.specs.List.{list_any, slice_split}
+use Rattle.std.specs.Result.{result_ok}
 use Rattle.std.specs.Str.{bytes_eq}
 use Rattle.norm_settings.specs.Options.{Text, is_name, number_within}
 use Rattle.norm_settings.specs.Line.{after_front, begins_with_dash}
-use Rattle.rule_book.specs.Rules.{rule_named}
-use Rattle.rule_book.specs.declared.rule.Rule.{Rule}
+use Rattle.rule_book.specs.Rules.{rule_named, rule_number}
 use Rattle.rule_book.specs.declared.entry.Verdict.{Verdict}
 use Rattle.rule_book.specs.declared.entry.Verdict.TheVariants.{Pass, Fix, Hold, Drop}
+use Rattle.wire_base.specs.declared.address.Side.{Side}
+use Rattle.wire_base.specs.declared.address.Side.TheVariants.{Inward, Outward}
+use Rattle.wire_base.specs.declared.prefix.Prefix.{Prefix}
+use Rattle.wire_base.specs.Prefixes.{after, before, prefix_of_parts}
+use Rattle.run_view.specs.Chosen.{has_choice, side_place, verdict_place}
 use Rattle.run_view.specs.declared.words.Asked.{Asked}
 use Rattle.run_view.specs.declared.words.Choice.{Choice}
-use Rattle.run_view.specs.declared.words.Choice.TheVariants.{ByRule, ByEra, ByVerdict}
+use Rattle.run_view.specs.declared.words.Choice.TheVariants.{ByTable, ByRule, ByEra, ByVerdict, BySide, ByHost}
+use Rattle.run_view.specs.declared.words.EraAsked.{EraAsked}
+use Rattle.run_view.specs.declared.words.Print.{Print}
+use Rattle.run_view.specs.declared.words.Print.TheVariants as prints
 
 -- nothing is asked for
 abbrev pub nothing_asked : Asked
-nothing_asked = record { json = false; rule = None; era = None; only = None }
+nothing_asked = record { print = prints.Text; rules = None; era = None; verdicts = None; sides = None; host = None }
 
--- the verdict of a word
+-- the options with a value, in the order of the table
+abbrev pub all_choices : List Choice
+all_choices = ByTable ∷ ByRule ∷ ByEra ∷ ByVerdict ∷ BySide ∷ ByHost ∷ []
+
+-- their names
+abbrev pub name_of : Choice → Text
+name_of ByTable = codes "--table"
+name_of ByRule = codes "--rule"
+name_of ByEra = codes "--era"
+name_of ByVerdict = codes "--only"
+name_of BySide = codes "--side"
+name_of ByHost = codes "--host"
+
+-- the verdict of a word, and the side
 abbrev pub verdict_named : Text → Option Verdict
 verdict_named word =
     if bytes_eq word (codes "drop") then Some Drop
@@ -24,28 +46,104 @@ verdict_named word =
     else if bytes_eq word (codes "pass") then Some Pass
     else None
 
--- the condition that the rule is named
-abbrev pub with_rule : Asked → Option Rule → Option Asked
-with_rule asked None = None
-with_rule asked (Some rule) = if is_some asked.rule then None else Some (record asked { rule = Some rule })
+abbrev pub side_named : Text → Option (Option Side)
+side_named word =
+    if bytes_eq word (codes "in") then Some (Some Inward)
+    else if bytes_eq word (codes "out") then Some (Some Outward)
+    else if bytes_eq word (codes "-") then Some None
+    else None
 
-abbrev pub with_era : Asked → Option ℕ → Option Asked
+-- the place of a name in the list of a choice: the number of a rule, or the place of a verdict or side
+abbrev pub place_named : Choice → Text → Option ℕ
+place_named ByRule name = option_map rule_number (rule_named name)
+place_named ByVerdict name = option_map verdict_place (verdict_named name)
+place_named BySide name = option_map side_place (side_named name)
+place_named choice name = None
+
+-- no names are listed
+abbrev pub no_names : List Bool
+no_names = replicate 64 false
+
+-- one more name, at this place; none is listed twice
+abbrev pub with_place : List Bool → Option ℕ → Option (List Bool)
+with_place names None = None
+with_place names (Some place) = if get_or names place false then None else Some (slice_set names place true)
+
+-- more names in turn
+abbrev pub with_names_of : Choice → List Bool → List Text → Option (List Bool)
+with_names_of choice names [] = Some names
+with_names_of choice names (name ∷ more) = elim (with_place names (place_named choice name)) [
+  | Some next ↦ with_names_of choice next more
+  | None ↦ None
+]
+
+-- the names of a list, between commas (44)
+abbrev pub listed : Choice → Text → Option (List Bool)
+listed choice value = with_names_of choice no_names (slice_split (λ octet. octet == 44) value)
+
+-- the number of an era of an engine, which has 32 bits and is not 0
+abbrev pub era_numbered : (second : Bool) → Text → Option EraAsked
+era_numbered second value = option_map (λ n. record { second = second; number = n }) (number_within 1 4294967295 value)
+
+abbrev pub era_named : Text → Option EraAsked
+era_named value = elim (after_front (codes "second:") value) [ Some number ↦ era_numbered true number | None ↦ era_numbered false value ]
+
+-- an address, which is the prefix of its 32 bits, or a prefix, which has a slash (47)
+abbrev pub host_named : Text → Option Prefix
+host_named value =
+    let second = after 46 value in
+    let third = after 46 second in
+    let fourth = after 46 third in
+    result_ok
+    (prefix_of_parts (before 46 value) (before 46 second) (before 46 third) (before 47 fourth)
+    (if list_any (λ octet. octet == 47) fourth then after 47 fourth else codes "32"))
+
+-- a table of records or of eras
+abbrev pub table_named : Text → Option Print
+table_named word =
+    if bytes_eq word (codes "records") then Some prints.Records
+    else if bytes_eq word (codes "eras") then Some prints.Eras
+    else None
+
+-- what is printed; JSON and tables exclude each other, and none is asked for twice
+abbrev pub with_print : Asked → Option Print → Option Asked
+with_print asked None = None
+with_print asked (Some print) = elim asked.print [
+  | prints.Text ↦ Some (record asked { print = print })
+  | prints.Json ↦ None
+  | prints.Records ↦ None
+  | prints.Eras ↦ None
+]
+
+-- one more condition; none is given twice
+abbrev pub with_rules : Asked → Option (List Bool) → Option Asked
+with_rules asked None = None
+with_rules asked (Some names) = if is_some asked.rules then None else Some (record asked { rules = Some names })
+
+abbrev pub with_era : Asked → Option EraAsked → Option Asked
 with_era asked None = None
 with_era asked (Some era) = if is_some asked.era then None else Some (record asked { era = Some era })
 
-abbrev pub with_only : Asked → Option Verdict → Option Asked
-with_only asked None = None
-with_only asked (Some verdict) = if is_some asked.only then None else Some (record asked { only = Some verdict })
+abbrev pub with_verdicts : Asked → Option (List Bool) → Option Asked
+with_verdicts asked None = None
+with_verdicts asked (Some names) = if is_some asked.verdicts then None else Some (record asked { verdicts = Some names })
 
--- one more condition with this value; none is given twice
+abbrev pub with_sides : Asked → Option (List Bool) → Option Asked
+with_sides asked None = None
+with_sides asked (Some names) = if is_some asked.sides then None else Some (record asked { sides = Some names })
+
+abbrev pub with_host : Asked → Option Prefix → Option Asked
+with_host asked None = None
+with_host asked (Some prefix) = if is_some asked.host then None else Some (record asked { host = Some prefix })
+
+-- one more option with this value
 abbrev pub with_choice : Choice → Asked → (value : Text) → Option Asked
-with_choice ByRule asked value = with_rule asked (rule_named value)
-with_choice ByEra asked value = with_era asked (number_within 1 4294967295 value)
-with_choice ByVerdict asked value = with_only asked (verdict_named value)
-
--- JSON is asked for; not twice
-abbrev pub with_json : Asked → Option Asked
-with_json asked = if asked.json then None else Some (record asked { json = true })
+with_choice ByTable asked value = with_print asked (table_named value)
+with_choice ByRule asked value = with_rules asked (listed ByRule value)
+with_choice ByEra asked value = with_era asked (era_named value)
+with_choice ByVerdict asked value = with_verdicts asked (listed ByVerdict value)
+with_choice BySide asked value = with_sides asked (listed BySide value)
+with_choice ByHost asked value = with_host asked (host_named value)
 
 -- what a word is: `--json`, an option with its value behind `=`, an option whose value is the next word, the first of the names, or none of these
 pub data Word : Type 0 where
@@ -55,25 +153,42 @@ pub data Word : Type 0 where
   name : Word
   unknown : Word
 
--- a word that begins with `-` (45): an option with its value, or none
-abbrev pub joined_of : (by_rule by_era by_verdict : Option Text) → Word
-joined_of (Some value) by_era by_verdict = joined ByRule value
-joined_of None (Some value) by_verdict = joined ByEra value
-joined_of None None (Some value) = joined ByVerdict value
-joined_of None None None = unknown
+-- the word is `--json`
+abbrev pub is_json : Text → Bool
+is_json word = bytes_eq word (codes "--json")
 
+-- JSON is asked for, also by words that are refused
+abbrev pub asks_json : List Text → Bool
+asks_json words = list_any is_json words
+
+-- the option with the text behind its name: nothing, or `=` (61) and a value; None if it is neither
+abbrev pub word_by : Choice → Option Text → Option Word
+word_by choice None = None
+word_by choice (Some []) = Some (parted choice)
+word_by choice (Some (octet ∷ value)) = if octet == 61 then Some (joined choice value) else None
+
+-- the first of the options of which the word is a use
+abbrev pub word_in : List Choice → Text → Word
+word_in [] word = unknown
+word_in (choice ∷ choices) word = elim (word_by choice (after_front (name_of choice) word)) [ Some met ↦ met | None ↦ word_in choices word ]
+
+-- a word that begins with `-` (45) is an option, or none
 abbrev pub word_of : Text → Word
-word_of word =
-    if bytes_eq word (codes "--json") then json
-    else if bytes_eq word (codes "--rule") then parted ByRule
-    else if bytes_eq word (codes "--era") then parted ByEra
-    else if bytes_eq word (codes "--only") then parted ByVerdict
-    else if begins_with_dash word then joined_of (after_front (codes "--rule=") word) (after_front (codes "--era=") word) (after_front (codes "--only=") word)
-    else name
+word_of word = if begins_with_dash word then (if is_json word then json else word_in all_choices word) else name
+
+-- a table of all eras has no conditions
+abbrev pub go_together : Asked → Bool
+go_together asked = elim asked.print [
+  | prints.Text ↦ true
+  | prints.Json ↦ true
+  | prints.Records ↦ true
+  | prints.Eras ↦ not (has_choice asked)
+]
 
 -- three names, none of them empty and none beginning with `-`
 abbrev pub with_names : Asked → List Text → Option Asked
-with_names asked (input ∷ output ∷ report ∷ []) = if is_name input && is_name output && is_name report then Some asked else None
+with_names asked (input ∷ output ∷ report ∷ []) =
+    if is_name input && is_name output && is_name report && go_together asked then Some asked else None
 with_names asked _ = None
 
 -- a word behind an option that waits for its value is that value
@@ -86,7 +201,7 @@ abbrev pub asked_from : (waiting : Option Choice) → Asked → List Text → Op
 asked_from waiting asked [] = None
 asked_from waiting asked (word ∷ words) =
     elim (next_word waiting word) [
-      | json ↦ elim (with_json asked) [ Some more ↦ asked_from None more words | None ↦ None ]
+      | json ↦ elim (with_print asked (Some prints.Json)) [ Some more ↦ asked_from None more words | None ↦ None ]
       | joined choice value ↦ elim (with_choice choice asked value) [ Some more ↦ asked_from None more words | None ↦ None ]
       | parted choice ↦ asked_from (Some choice) asked words
       | name ↦ with_names asked (word ∷ words)

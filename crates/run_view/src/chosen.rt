@@ -1,48 +1,138 @@
 //! Which records are printed.
-ghost use Rattle.std.specs.Prelude.{◌≡◌};
+ghost use Rattle.std.specs.Prelude.{◌≡◌, ◌<◌};
 ghost use Rattle.rule_book.specs.Entries.{plain};
+ghost use Rattle.run_view.specs.Chosen as spec;
 ghost use Rattle.run_view.specs.Eras.{is_among as is_among_these};
-ghost use Rattle.run_view.specs.View as spec;
+ghost use Rattle.run_view.specs.Items.{flow_at as flow_there};
+ghost use Rattle.wire_base.specs.Prefixes as prefixes;
 
-use crate::words::Asked;
-use rule_book::{Ended, Entry, Rule, Verdict};
+use crate::seen::flow_at;
+use crate::values::{Names, side_place, verdict_place};
+use crate::words::{Asked, EraAsked, Print};
+use frame_view::Flow;
+use rule_book::{Ended, Entry, Rule};
+use wire_base::{Addr, Link, Prefix};
+
+/// Which conditions the lines of a record meet; a condition that is not given is met.
+#[derive(Clone, Copy)]
+pub(crate) struct Meets {
+    pub(crate) rule: bool,
+    pub(crate) era: bool,
+    pub(crate) verdict: bool,
+    pub(crate) side: bool,
+    pub(crate) host: bool,
+}
 
 /// Returns whether a condition is given.
-pub(crate) fn has_choice(asked: Asked) -> bool
-    ensures { result ≡ spec.has_choice asked }
+pub(crate) fn has_choice(asked: &Asked) -> bool
+    ensures { result ≡ spec.has_choice asked.now }
 {
-    asked.rule.is_some() || asked.era.is_some() || asked.only.is_some()
+    asked.rules.is_some()
+        || asked.era.is_some()
+        || asked.verdicts.is_some()
+        || asked.sides.is_some()
+        || asked.host.is_some()
 }
 
-/// Returns whether the record of an entry is printed.
+/// Returns whether records are printed.
 #[inline(always)]
-pub(crate) fn is_printed(asked: Asked, entry: &Entry) -> bool
-    ensures { result ≡ spec.is_printed asked (plain entry.now) }
+pub(crate) fn prints_records(asked: &Asked) -> bool
+    ensures { result ≡ spec.prints_records asked.now }
 {
-    if !asked.json && !has_choice(asked) {
-        return false;
+    match asked.print {
+        Print::Text => has_choice(asked),
+        Print::Json | Print::Records => true,
+        Print::Eras => false,
     }
-    is_chosen(asked, entry)
 }
 
-// Returns whether an entry meets each condition that is given.
-fn is_chosen(asked: Asked, entry: &Entry) -> bool
-    ensures { result ≡ spec.is_chosen asked (plain entry.now) }
+/// Returns which conditions a line meets that has this entry by this engine, and a record of these
+/// octets.
+pub(crate) fn met_by(asked: &Asked, second: bool, entry: &Entry, link: Link, octets: &[u8]) -> Meets
+    ensures { result ≡ spec.met_by asked.now second (plain entry.now) (flow_there link octets.now) }
 {
-    let by_rule = names_rule(asked.rule, entry.rules.as_slice());
-    let by_era = names_era(asked.era, entry);
-    let by_verdict = has_verdict(asked.only, entry.verdict);
-    by_rule && by_era && by_verdict
+    let side = is_listed(&asked.sides, side_place(entry.side));
+    let host = has_host(asked.host, link, octets);
+    Meets {
+        rule: names_rule(&asked.rules, entry.rules.as_slice()),
+        era: names_era(asked.era, second, entry),
+        verdict: is_listed(&asked.verdicts, verdict_place(entry.verdict)),
+        side: !second && side,
+        host: !second && host,
+    }
 }
 
-// Returns whether the rule is among these.
-fn names_rule(rule: Option<Rule>, rules: &[Rule]) -> bool
-    ensures { result ≡ spec.names_rule rule rules.now }
+/// Returns what one of two meets.
+pub(crate) fn either(one: Meets, other: Meets) -> Meets
+    ensures { result ≡ spec.either one other }
 {
-    let Some(rule) = rule else {
-        return true;
-    };
-    is_among(rules, rule.number())
+    Meets {
+        rule: one.rule | other.rule,
+        era: one.era | other.era,
+        verdict: one.verdict | other.verdict,
+        side: one.side | other.side,
+        host: one.host | other.host,
+    }
+}
+
+/// Returns that nothing is met.
+pub(crate) fn nothing_met() -> Meets
+    ensures { result ≡ spec.nothing_met }
+{
+    Meets {
+        rule: false,
+        era: false,
+        verdict: false,
+        side: false,
+        host: false,
+    }
+}
+
+/// Returns whether the conditions on the record are met.
+pub(crate) fn meets_record(met: Meets) -> bool
+    ensures { result ≡ spec.meets_record met }
+{
+    met.side && met.host
+}
+
+/// Returns whether all conditions are met.
+pub(crate) fn meets_all(met: Meets) -> bool
+    ensures { result ≡ spec.meets_all met }
+{
+    met.rule && met.era && met.verdict && meets_record(met)
+}
+
+// Returns whether the name at this place is among these, if names are given.
+fn is_listed(names: &Option<Names>, place: u8) -> bool
+    requires { place < 64 }
+    ensures { result ≡ spec.is_listed names.now place }
+{
+    match names {
+        Some(names) => names[usize::from(place)],
+        None => true,
+    }
+}
+
+// Returns whether one of the rules is among these, if rules are given.
+fn names_rule(names: &Option<Names>, rules: &[Rule]) -> bool
+    ensures { result ≡ spec.names_rule names.now rules.now }
+{
+    match names {
+        Some(names) => names_one(names, rules),
+        None => true,
+    }
+}
+
+// Returns whether one of the rules is among these.
+fn names_one(names: &Names, rules: &[Rule]) -> bool
+    ensures { result ≡ spec.names_one names.now rules.now }
+{
+    for rule in rules {
+        if names[usize::from(rule.number())] {
+            return true;
+        }
+    }
+    false
 }
 
 /// Returns whether the rule with this number is among these.
@@ -57,17 +147,19 @@ pub(crate) fn is_among(rules: &[Rule], number: u8) -> bool
     false
 }
 
-// Returns whether an entry belongs to the era, began it or ended it.
-fn names_era(era: Option<u32>, entry: &Entry) -> bool
-    ensures { result ≡ spec.names_era era (plain entry.now) }
+// Returns whether a line is one of the engine of the era, and its entry belongs to the era, began it
+// or ended it, if an era is given.
+fn names_era(era: Option<EraAsked>, second: bool, entry: &Entry) -> bool
+    ensures { result ≡ spec.names_era era second (plain entry.now) }
 {
     let Some(era) = era else {
         return true;
     };
-    let belongs = is_number(entry.era, era);
-    let began = is_number(entry.begun, era);
-    let over = has_ended(entry.ended.as_slice(), era);
-    belongs || began || over
+    let own = if second { era.second } else { !era.second };
+    let belongs = is_number(entry.era, era.number);
+    let began = is_number(entry.begun, era.number);
+    let over = has_ended(entry.ended.as_slice(), era.number);
+    own && (belongs || began || over)
 }
 
 fn is_number(own: Option<u32>, number: u32) -> bool
@@ -86,23 +178,29 @@ fn has_ended(ended: &[Ended], era: u32) -> bool
     ended.iter().any(|one| one.era == era)
 }
 
-fn has_verdict(only: Option<Verdict>, verdict: Verdict) -> bool
-    ensures { result ≡ spec.has_verdict only verdict }
+// Returns whether source or destination of a record lies in the prefix, if one is given.
+fn has_host(host: Option<Prefix>, link: Link, octets: &[u8]) -> bool
+    ensures { result ≡ spec.has_host host (flow_there link octets.now) }
 {
-    match only {
-        Some(only) => is_verdict(only, verdict),
+    match host {
+        Some(prefix) => is_of(prefix, flow_at(link, octets)),
         None => true,
     }
 }
 
-fn is_verdict(one: Verdict, other: Verdict) -> bool
-    ensures { result ≡ spec.is_verdict one other }
+fn is_of(prefix: Prefix, flow: Option<Flow>) -> bool
+    ensures { result ≡ spec.is_of prefix flow }
 {
-    match (one, other) {
-        (Verdict::Pass, Verdict::Pass) => true,
-        (Verdict::Fix, Verdict::Fix) => true,
-        (Verdict::Hold, Verdict::Hold) => true,
-        (Verdict::Drop, Verdict::Drop) => true,
-        _ => false,
+    match flow {
+        Some(flow) => holds(prefix, flow.src) || holds(prefix, flow.dst),
+        None => false,
     }
+}
+
+// Returns whether the first bits of the address are those of the prefix.
+fn holds(prefix: Prefix, addr: Addr) -> bool
+    ensures { result ≡ prefixes.holds prefix addr.0 }
+{
+    let shift = u32::from(32_u8.saturating_sub(prefix.len));
+    u64::from(prefix.addr.0) >> shift == u64::from(addr.0) >> shift
 }

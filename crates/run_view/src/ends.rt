@@ -1,5 +1,5 @@
 //! The ends of the three files and of the output.
-ghost use Rattle.std.specs.Prelude.{◌≡◌, ◌^◌, ◌<◌, ◌≤◌, ℕ, List, IfErr, IfSome, OnOk};
+ghost use Rattle.std.specs.Prelude.{◌≡◌, ◌^◌, ◌<◌, ◌≤◌, ℕ, List, [], IfErr, IfSome, OnOk};
 ghost use Rattle.std.specs.Io.KnownBytes.{IsAtEnd};
 ghost use Rattle.std.specs.declared.option.Option.{Option};
 ghost use Rattle.capture_input.specs.Inputs.{TookAll};
@@ -8,7 +8,7 @@ ghost use Rattle.pcap_file.specs.Records.{Packet};
 ghost use Rattle.pcap_file.specs.declared.head.Head.{Head};
 ghost use Rattle.run_view.specs.Ahead.{left_in};
 ghost use Rattle.run_view.specs.Causes.{counts_of};
-ghost use Rattle.run_view.specs.Printed.{Failed};
+ghost use Rattle.run_view.specs.Printed.{Cut};
 ghost use Rattle.run_view.specs.SoFar.{AreWhole};
 ghost use Rattle.run_view.specs.Standing.{InputAt, OutputAt};
 ghost use Rattle.run_view.specs.Steps.{HasRoom, IsReady, MayRead, StayedAt};
@@ -104,7 +104,7 @@ fn end_frames<O: Source>(frames: &mut Frames, output: &mut O) -> Result<(), Stop
 /// Flushes the output.
 pub(crate) fn flush<K: Sink>(out: &mut K) -> Result<(), Stop>
     ensures flushed { OnOk result (K.held out.new ≡ K.held out.old) }
-    ensures stops { IfErr result (λ stop. (stop ≡ Unwritten) × Failed (K.held out.old) (K.held out.new) (K.fault_count out.old) (K.fault_count out.new)) }
+    ensures stops { IfErr result (λ stop. (stop ≡ Unwritten) × Cut (K.held out.old) (K.held out.new) (K.fault_count out.old) (K.fault_count out.new) []) }
     ensures later { K.fault_count out.old ≤ K.fault_count out.new }
     ensures kept { OnOk result (K.fault_count out.new ≡ K.fault_count out.old) }
 {

@@ -1,30 +1,34 @@
 //! The table of the eras that a run names.
-ghost use Rattle.std.specs.Prelude.{◌≡◌, nat_eq, is_some, true, IsSome, OnOk, Some};
+ghost use Rattle.std.specs.Prelude.{◌≡◌, nat_eq, option_map, true, IsSome, OnOk};
 ghost use Rattle.indexmap.specs.IndexMap.{get};
 ghost use Rattle.run_view.specs.Rows.{plain_row, table_of};
 ghost use Rattle.run_view.specs.Eras as spec;
 
 use crate::chosen::is_among;
 use edge_io::NoMemory;
-use frame_view::Flow;
+use frame_view::{Flow, Ports};
 use indexmap::IndexMap;
-use rule_book::{Ended, Reason, Rule};
+use rule_book::{Ended, Rule};
 use std::alloc::Global;
+use view_text::Opened;
+use wire_base::Side;
 
 /// What is known of an era.
 #[derive(Drop)]
 pub(crate) struct EraRow {
-    /// The packet that began it.
+    /// The packet that began it, turned so that its source is the outside host.
     pub(crate) flow: Option<Flow>,
+    /// How that packet opened it.
+    pub(crate) opened: Option<Opened>,
     /// The times of its first and its last record, in nanoseconds since 1970.
     pub(crate) first: u64,
     pub(crate) last: u64,
     /// How many records belong to it.
     pub(crate) records: u64,
-    /// How many octets went inwards in it.
-    pub(crate) octets: u64,
-    /// Why it ended.
-    pub(crate) end: Option<Reason>,
+    /// How many octets were sent inwards in it, each copy counted.
+    pub(crate) sent: u64,
+    /// How it ended, with the report's number of octets.
+    pub(crate) ended: Option<Ended>,
     /// The rules that its entries name, in the order in which they are named first.
     pub(crate) rules: Vec<Rule>,
 }
@@ -49,11 +53,12 @@ impl EraRow {
     {
         EraRow {
             flow: None,
+            opened: None,
             first: 0,
             last: 0,
             records: 0,
-            octets: 0,
-            end: None,
+            sent: 0,
+            ended: None,
             rules: Vec::new(alloc),
         }
     }
@@ -68,7 +73,7 @@ impl EraRow {
         }
         self.last = told.time;
         self.records = self.records.saturating_add(1);
-        self.octets = self.octets.saturating_add(told.octets);
+        self.sent = self.sent.saturating_add(told.octets);
         Ok(())
     }
 }
@@ -121,42 +126,123 @@ fn add_named(eras: &mut Eras, era: u32, told: Told<'_>) -> Result<(), NoMemory>
     }
 }
 
-/// Notes the packet that began an era.
+/// Notes the packet that began an era, which came from outside or not.
 pub(crate) fn begin(
     alloc: Global,
     eras: &mut Eras,
     era: Option<u32>,
+    outside: bool,
     flow: Option<Flow>,
 ) -> Result<(), NoMemory>
-    ensures { OnOk result (table_of eras.new ≡ spec.changed_if era (spec.with_flow flow) (table_of eras.old)) }
+    ensures { OnOk result (table_of eras.new ≡ spec.changed_if era (spec.with_begin outside flow) (table_of eras.old)) }
 {
     let Some(era) = era else {
         return Ok(());
     };
     name(alloc, eras, era)?;
-    begin_named(eras, era, flow);
+    begin_named(eras, era, outside, flow);
     Ok(())
 }
 
 // Notes the packet that began an era that is in the table.
-fn begin_named(eras: &mut Eras, era: u32, flow: Option<Flow>)
+fn begin_named(eras: &mut Eras, era: u32, outside: bool, flow: Option<Flow>)
     requires there { IsSome (get nat_eq eras.old era) }
-    ensures { table_of eras.new ≡ spec.changed era (spec.with_flow flow) (table_of eras.old) }
+    ensures { table_of eras.new ≡ spec.changed era (spec.with_begin outside flow) (table_of eras.old) }
 {
+    let own = outside_first(outside, flow);
+    let opened = opened_by(outside, flow);
     match eras.get_mut(&era) {
-        Some(row) => row.flow = flow,
+        Some(row) => {
+            row.flow = own;
+            row.opened = Some(opened);
+        }
         None => unreachable!(),
     }
 }
 
-/// Adds octets that went inwards in an era.
+/// Returns whether a packet went from the outside of the network to its inside, by the side that an
+/// engine says.
+pub(crate) fn from_outside(second: bool, side: Option<Side>) -> bool
+    ensures { result ≡ spec.from_outside second side }
+{
+    match side {
+        Some(Side::Inward) => !second,
+        Some(Side::Outward) => second,
+        None => false,
+    }
+}
+
+// Returns a packet with the outside host as its source.
+fn outside_first(outside: bool, flow: Option<Flow>) -> Option<Flow>
+    ensures { result ≡ spec.outside_first outside flow }
+{
+    if outside {
+        return flow;
+    }
+    match flow {
+        Some(flow) => Some(turned(flow)),
+        None => None,
+    }
+}
+
+// Returns a packet with source and destination exchanged.
+fn turned(flow: Flow) -> Flow
+    ensures { result ≡ spec.turned flow }
+{
+    Flow {
+        src: flow.dst,
+        dst: flow.src,
+        ports: turned_ports(flow.ports),
+        ..flow
+    }
+}
+
+fn turned_ports(ports: Option<Ports>) -> Option<Ports>
+    ensures { result ≡ option_map spec.turned_ports ports }
+{
+    match ports {
+        Some(ports) => Some(Ports {
+            src: ports.dst,
+            dst: ports.src,
+        }),
+        None => None,
+    }
+}
+
+// Returns how a packet opens an era.
+fn opened_by(outside: bool, flow: Option<Flow>) -> Opened
+    ensures { result ≡ spec.opened_by outside flow }
+{
+    if !is_opening(flow) {
+        Opened::Mid
+    } else if outside {
+        Opened::In
+    } else {
+        Opened::Out
+    }
+}
+
+// Returns whether a packet is a segment with SYN and without ACK.
+fn is_opening(flow: Option<Flow>) -> bool
+    ensures { result ≡ spec.is_opening flow }
+{
+    let Some(flow) = flow else {
+        return false;
+    };
+    match flow.tcp {
+        Some(marks) => marks.flags.syn() && !marks.flags.ack(),
+        None => false,
+    }
+}
+
+/// Adds octets that were sent inwards in an era.
 pub(crate) fn bring(
     alloc: Global,
     eras: &mut Eras,
     era: Option<u32>,
     octets: u64,
 ) -> Result<(), NoMemory>
-    ensures { OnOk result (table_of eras.new ≡ spec.changed_if era (spec.with_octets octets) (table_of eras.old)) }
+    ensures { OnOk result (table_of eras.new ≡ spec.changed_if era (spec.with_sent octets) (table_of eras.old)) }
 {
     let Some(era) = era else {
         return Ok(());
@@ -166,13 +252,13 @@ pub(crate) fn bring(
     Ok(())
 }
 
-// Adds octets that went inwards in an era that is in the table.
+// Adds octets that were sent inwards in an era that is in the table.
 fn bring_named(eras: &mut Eras, era: u32, octets: u64)
     requires there { IsSome (get nat_eq eras.old era) }
-    ensures { table_of eras.new ≡ spec.changed era (spec.with_octets octets) (table_of eras.old) }
+    ensures { table_of eras.new ≡ spec.changed era (spec.with_sent octets) (table_of eras.old) }
 {
     match eras.get_mut(&era) {
-        Some(row) => row.octets = row.octets.saturating_add(octets),
+        Some(row) => row.sent = row.sent.saturating_add(octets),
         None => unreachable!(),
     }
 }
@@ -189,7 +275,7 @@ pub(crate) fn end_all(alloc: Global, eras: &mut Eras, ended: &[Ended]) -> Result
 
 // Notes that an era ended.
 fn end(alloc: Global, eras: &mut Eras, ended: Ended) -> Result<(), NoMemory>
-    ensures { OnOk result (table_of eras.new ≡ spec.changed ended.era (spec.with_end ended.reason) (table_of eras.old)) }
+    ensures { OnOk result (table_of eras.new ≡ spec.changed ended.era (spec.with_end ended) (table_of eras.old)) }
 {
     name(alloc, eras, ended.era)?;
     end_named(eras, ended);
@@ -199,10 +285,10 @@ fn end(alloc: Global, eras: &mut Eras, ended: Ended) -> Result<(), NoMemory>
 // Notes that an era that is in the table ended.
 fn end_named(eras: &mut Eras, ended: Ended)
     requires there { IsSome (get nat_eq eras.old ended.era) }
-    ensures { table_of eras.new ≡ spec.changed ended.era (spec.with_end ended.reason) (table_of eras.old) }
+    ensures { table_of eras.new ≡ spec.changed ended.era (spec.with_end ended) (table_of eras.old) }
 {
     match eras.get_mut(&ended.era) {
-        Some(row) => row.end = Some(ended.reason),
+        Some(row) => row.ended = Some(ended),
         None => unreachable!(),
     }
 }

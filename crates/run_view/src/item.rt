@@ -58,13 +58,22 @@ pub(crate) struct Files {
     pub(crate) frames: Frames,
 }
 
+/// What is wanted of the packets of a line.
+#[derive(Clone, Copy)]
+pub(crate) struct Wants {
+    /// The first packet: the line begins an era.
+    pub(crate) flow: bool,
+    /// The count of octets: the line is of an era.
+    pub(crate) octets: bool,
+}
+
 /// What is known of the frames of a line.
 #[derive(Drop)]
 pub(crate) struct Gathered {
     /// What differs between the record and its frames.
     pub(crate) changes: Vec<Change>,
-    /// The line is of an era. Only then the next two are right.
-    pub(crate) wanted: bool,
+    /// What of the next two is right.
+    pub(crate) wants: Wants,
     /// The packet of the first frame, or of the record if there is no frame.
     pub(crate) flow: Option<Flow>,
     /// How many octets the frames have behind TCP headers.
@@ -100,14 +109,14 @@ pub(crate) fn time_of(head: Head, seconds: u32, fraction: u32) -> u64
 }
 
 /// Returns what is gathered before the first frame.
-pub(crate) fn nothing(alloc: Global, original: Original<'_>, wanted: bool) -> Gathered
+pub(crate) fn nothing(alloc: Global, original: Original<'_>, wants: Wants) -> Gathered
     ensures gathers { IsGathered original.entry.link original.entry.kinds original.entry.octets.now [] result }
-    ensures wanted { result.wanted ≡ wanted }
+    ensures wants { result.wants ≡ wants }
 {
     Gathered {
         changes: Vec::new(alloc),
-        wanted,
-        flow: wanted_flow(wanted, original),
+        wants,
+        flow: wanted_flow(wants.flow, original),
         octets: 0,
     }
 }
@@ -127,7 +136,7 @@ pub(crate) fn gather<O: Source>(
     ensures read { OnOk result ((all : Option (List ℕ)) (head : Head) (older : List Packet) →
         OutputAt frames.old.reader head all (O.left output.old) older →
         FramesRead frames.new all (O.left output.new) head older original.entry.link original.entry.kinds original.entry.octets.now packets gathered.new) }
-    ensures wanted { OnOk result (gathered.new.wanted ≡ gathered.old.wanted) }
+    ensures wants { OnOk result (gathered.new.wants ≡ gathered.old.wants) }
     ensures ready { OnOk result (MayRead frames.new) }
     ensures count { OnOk result (frames.new.count ≡ frames.old.count + packets) }
     ensures stops { IfErr result (λ stop. (all : Option (List ℕ)) (head : Head) (older : List Packet) →
@@ -167,7 +176,7 @@ fn add_frame<O: Source>(
     ensures added { OnOk result ((all : Option (List ℕ)) (head : Head) (own older : List Packet) → length own ≡ number →
         OutputAt frames.old.reader head all (O.left output.old) (own ++ older) → IsGathered original.entry.link original.entry.kinds original.entry.octets.now own gathered.old →
         FrameAdded frames.new all (O.left output.new) head own older original.entry.link original.entry.kinds original.entry.octets.now gathered.new) }
-    ensures wanted { OnOk result (gathered.new.wanted ≡ gathered.old.wanted) }
+    ensures wants { OnOk result (gathered.new.wants ≡ gathered.old.wants) }
     ensures ready { OnOk result (MayRead frames.new) }
     ensures count { OnOk result (frames.new.count ≡ frames.old.count + 1) }
     ensures stops { IfErr result (λ stop. (all : Option (List ℕ)) (head : Head) (behind : List Packet) →
@@ -195,7 +204,7 @@ fn note_frame(
     ensures noted { OnOk result ((own : List Packet) (packet : Packet) → length own ≡ number → packet.octets ≡ frame.now →
         IsGathered original.entry.link original.entry.kinds original.entry.octets.now own gathered.old →
         IsGathered original.entry.link original.entry.kinds original.entry.octets.now (packet ∷ own) gathered.new) }
-    ensures wanted { OnOk result (gathered.new.wanted ≡ gathered.old.wanted) }
+    ensures wants { OnOk result (gathered.new.wants ≡ gathered.old.wants) }
 {
     let place = u32::from(number) + 1;
     add_changes_at(alloc, original, frame, place, &mut gathered.changes)?;
@@ -206,15 +215,18 @@ fn note_frame(
 // Notes the packet and the octets of the next frame of a record, if they are wanted.
 fn note_flow(link: Link, number: u8, frame: &[u8], gathered: &mut Gathered)
     ensures changes { gathered.new.changes ≡ gathered.old.changes }
-    ensures wanted { gathered.new.wanted ≡ gathered.old.wanted }
-    ensures flow { gathered.old.wanted ≡ true → gathered.new.flow ≡ spec.first_flow number (spec.flow_at link frame.now) gathered.old.flow }
-    ensures octets { gathered.old.wanted ≡ true → gathered.new.octets ≡ plus gathered.old.octets (spec.tcp_octets (spec.flow_at link frame.now)) }
+    ensures wants { gathered.new.wants ≡ gathered.old.wants }
+    ensures flow { gathered.old.wants.flow ≡ true → gathered.new.flow ≡ spec.first_flow number (spec.flow_at link frame.now) gathered.old.flow }
+    ensures octets { gathered.old.wants.octets ≡ true → gathered.new.octets ≡ plus gathered.old.octets (spec.tcp_octets (spec.flow_at link frame.now)) }
 {
-    if !gathered.wanted {
+    let wants = gathered.wants;
+    if !wants.flow && !wants.octets {
         return;
     }
     let flow = flow_at(link, frame);
-    gathered.flow = first_flow(number, flow, gathered.flow);
+    if wants.flow {
+        gathered.flow = first_flow(number, flow, gathered.flow);
+    }
     gathered.octets = gathered.octets.saturating_add(tcp_octets(flow));
 }
 

@@ -11,21 +11,27 @@
 //! (`specs/Causes.antt`): at 3 and 4 the input has a fault right behind the records of the items,
 //! where the next record was wanted, or the output one right behind the frames read so far; before
 //! the first line the fault is in the head of the input, or the head of the input is accepted and
-//! that of the output has a fault or another link. At 5 the count of faults of a source rose, at 7
-//! that of the output. What is printed before the last line is the text of the items up to there;
-//! at 8, which is returned only if memory cannot be allocated (that is not claimed), there may be
-//! whole lines behind it, the first of those that end a view of the items; if there are any, the
-//! three files end there. Nothing is claimed of a source or an output without known octets. Laws:
-//! each quantity of an era of either engine is a first, last, count or sum over all items
-//! (`eras_are_rows`); a view of an input, an output of its link and a report of the same items stops
-//! only for want of memory, or if a count of faults rises or is at its last value
+//! that of the output has a fault or another link. At 5 the count of faults of a source rose. What
+//! is printed before the last line is the text of the items up to there, all lines of a record or
+//! none; at 8, which is returned only if memory cannot be allocated (that is not claimed), there
+//! may be whole lines behind it, the first of those that end a view of the items; if there are any,
+//! the three files end there. At 7 the count of faults of the output rose, and what it holds is a
+//! prefix of the text of items that the files give, of that and what ends a view of them, where the
+//! files end there, or of the text before a stop and its line. A line is one list of named fields
+//! in a format (`view_text`); no clause names a format but that of a stop, which is JSON if a word
+//! is `--json`. Nothing is claimed of a source or an output without known octets. Laws: each
+//! quantity of an era of either engine is a first, last, count or sum over all items
+//! (`eras_are_rows`); a view of an input, an output of its link and a report of the same items
+//! stops only for want of memory, or if a count of faults rises or is at its last value
 //! (`runs_are_viewed`).
 //!
-//! Choices: counts of 64 bits stand still at the last value. A frame of a line of the second engine
-//! is compared with the record, since what the first engine wrote is in no file. A frame that norm
-//! made itself, for a dropped record, by C_PROBE or by F_DONE, is named and not compared. The
-//! report is read ahead, at most 4,096 octets: where its source fails, the last octets that were
-//! read ahead, fewer than 400 and what the failed call read, are not viewed.
+//! Choices: counts of 64 bits stand still at the last value. Conditions choose a record with all
+//! its lines, of which at most one record's are kept; each condition may be met by another line. A
+//! frame of a line of the second engine is compared with the record, since what the first engine
+//! wrote is in no file. A frame that norm made itself, for a dropped record, by C_PROBE or by
+//! F_DONE, is named and not compared. The report is read ahead, at most 4,096 octets: where its
+//! source fails, the last octets that were read ahead, fewer than 400 and what the failed call
+//! read, are not viewed.
 #![tactic(auto)]
 
 mod chosen;
@@ -38,10 +44,12 @@ pub mod laws;
 mod line;
 mod print;
 mod seen;
+mod show;
 mod sources;
 pub mod stop;
 mod tally;
 mod told;
+pub mod values;
 pub mod viewer;
 pub mod words;
 

@@ -1,27 +1,41 @@
 //! What is printed of a run.
-ghost use Rattle.std.specs.Prelude.{◌≡◌, ◌≤◌, ◌++◌, map, IfErr, IfOk, OnOk, string_bytes};
+ghost use Rattle.std.specs.Prelude.{◌≡◌, ◌≤◌, ◌++◌, map, option_map, option_and_then, IfErr, IfOk, OnOk, string_bytes};
 ghost use Rattle.std.specs.Io.KnownBytes.{Appends};
-ghost use Rattle.rule_book.specs.Entries.{plain};
-ghost use Rattle.run_view.specs.Printed.{PartStops, PrintStops, record_shown, summary_shown};
+ghost use Rattle.run_view.specs.Printed.{PartStops, PrintStops, summary_shown};
 ghost use Rattle.run_view.specs.Rows.{plain_pair, table_of};
+ghost use Rattle.run_view.specs.Stops.{stop_format as format_of_stop, stop_line as line_of_stop};
 ghost use Rattle.run_view.specs.View as spec;
 ghost use Rattle.run_view.specs.Viewed as viewed;
+ghost use Rattle.run_view.specs.declared.stop.Stop.TheVariants.{Memory};
 
 use crate::Stop;
 use crate::eras::{EraRow, Eras};
-use crate::item::Gathered;
-use crate::seen::{flow_at, length_at};
 use crate::tally::{Tally, era_counts};
-use edge_io::Sink;
-use rule_book::Entry;
+use crate::words::Print;
+use edge_io::{NoMemory, Sink};
+use rule_book::{Ended, Entry, Reason};
 use std::alloc::Global;
-use view_text::{EraView, RecordView, Sides, Summary, era_line, record_line, summary_lines};
+use view_text::{
+    EraView, Format, Sides, Summary, chosen_line, era_heading, era_line, record_heading,
+    summary_line,
+};
 use wire_base::Link;
 
+/// Returns the format in which records and eras are printed.
+pub(crate) fn format_of(print: Print) -> Format
+    ensures { result ≡ spec.format_of print }
+{
+    match print {
+        Print::Text => Format::Text,
+        Print::Json => Format::Json,
+        Print::Records | Print::Eras => Format::Table,
+    }
+}
+
 /// Prints a text.
-fn print<K: Sink>(text: &[u8], out: &mut K) -> Result<(), Stop>
+pub(crate) fn print<K: Sink>(text: &[u8], out: &mut K) -> Result<(), Stop>
     ensures prints { OnOk result (Appends (K.held out.old) (K.held out.new) text.now) }
-    ensures stops { IfErr result (PrintStops (K.held out.old) (K.held out.new) (K.fault_count out.old) (K.fault_count out.new)) }
+    ensures stops { IfErr result (PrintStops (K.held out.old) (K.held out.new) (K.fault_count out.old) (K.fault_count out.new) text.now) }
     ensures later { K.fault_count out.old ≤ K.fault_count out.new }
     ensures kept { OnOk result (K.fault_count out.new ≡ K.fault_count out.old) }
 {
@@ -36,6 +50,8 @@ fn print<K: Sink>(text: &[u8], out: &mut K) -> Result<(), Stop>
 pub(crate) struct Shown<'a> {
     /// It is one of the second engine.
     pub(crate) second: bool,
+    /// Its frames went to the second engine.
+    pub(crate) given: bool,
     /// The number of its record.
     pub(crate) number: u32,
     /// The time of its record, in nanoseconds since 1970.
@@ -44,38 +60,24 @@ pub(crate) struct Shown<'a> {
     /// The octets of its record.
     pub(crate) octets: &'a [u8],
     pub(crate) entry: &'a Entry,
+    /// How many frames stand before its own.
+    pub(crate) before: u64,
 }
 
-/// Prints a line of the report.
-#[inline(never)]
-#[tactic(auto, unfolding(crate::specs::View::record_line))]
-pub(crate) fn print_record<K: Sink>(
-    alloc: Global,
-    json: bool,
-    shown: Shown<'_>,
-    gathered: &Gathered,
-    out: &mut K,
-) -> Result<(), Stop>
-    ensures prints { OnOk result (Appends (K.held out.old) (K.held out.new) (spec.record_line json
-        (record_shown shown.entry.second shown.entry.number shown.entry.time shown.entry.link shown.entry.octets.now shown.entry.entry.now gathered.now))) }
-    ensures stops { IfErr result (PrintStops (K.held out.old) (K.held out.new) (K.fault_count out.old) (K.fault_count out.new)) }
+/// Prints what stands before the first record: the heading of a table of records.
+#[tactic(auto, unfolding(crate::specs::View::opening))]
+pub(crate) fn print_opening<K: Sink>(alloc: Global, print: Print, out: &mut K) -> Result<(), Stop>
+    ensures prints { OnOk result (Appends (K.held out.old) (K.held out.new) (spec.opening print)) }
+    ensures stops { IfErr result (PrintStops (K.held out.old) (K.held out.new) (K.fault_count out.old) (K.fault_count out.new) (spec.opening print)) }
     ensures later { K.fault_count out.old ≤ K.fault_count out.new }
     ensures kept { OnOk result (K.fault_count out.new ≡ K.fault_count out.old) }
 {
-    let view = RecordView {
-        number: u64::from(shown.number),
-        second: shown.second,
-        own: shown.entry.number,
-        time: shown.time,
-        flow: flow_at(shown.link, shown.octets),
-        length: length_at(shown.link, shown.octets),
-        entry: shown.entry,
-        frames: u32::from(shown.entry.packets),
-        changes: gathered.changes.as_slice(),
-    };
-    match record_line(alloc, json, &view) {
-        Ok(line) => print(line.as_bytes(), out),
-        Err(_) => Err(Stop::Memory),
+    match print {
+        Print::Text | Print::Json | Print::Eras => Ok(()),
+        Print::Records => match record_heading(alloc) {
+            Ok(line) => self::print(line.as_bytes(), out),
+            Err(_) => Err(Stop::Memory),
+        },
     }
 }
 
@@ -92,12 +94,13 @@ pub(crate) struct Size {
 #[tactic(auto, unfolding(crate::specs::View::summary_line))]
 pub(crate) fn print_summary<K: Sink>(
     alloc: Global,
+    format: Format,
     size: Size,
     tally: &Tally,
     out: &mut K,
 ) -> Result<(), Stop>
-    ensures prints { OnOk result (Appends (K.held out.old) (K.held out.new) (spec.summary_line (summary_shown size.both size.records size.frames tally.now))) }
-    ensures stops { IfErr result (PrintStops (K.held out.old) (K.held out.new) (K.fault_count out.old) (K.fault_count out.new)) }
+    ensures prints { OnOk result (Appends (K.held out.old) (K.held out.new) (spec.summary_line format (summary_shown size.both size.records size.frames tally.now))) }
+    ensures stops { IfErr result (PrintStops (K.held out.old) (K.held out.new) (K.fault_count out.old) (K.fault_count out.new) (spec.summary_line format (summary_shown size.both size.records size.frames tally.now))) }
     ensures later { K.fault_count out.old ≤ K.fault_count out.new }
     ensures kept { OnOk result (K.fault_count out.new ≡ K.fault_count out.old) }
 {
@@ -109,8 +112,8 @@ pub(crate) fn print_summary<K: Sink>(
         rules: tally.rules.as_slice(),
         eras: era_counts(tally),
     };
-    match summary_lines(alloc, &summary) {
-        Ok(lines) => print(lines.as_bytes(), out),
+    match summary_line(alloc, format, &summary) {
+        Ok(line) => print(line.as_bytes(), out),
         Err(_) => Err(Stop::Memory),
     }
 }
@@ -122,33 +125,73 @@ fn second_sides(both: bool, sides: Sides) -> Option<Sides>
     if both { Some(sides) } else { None }
 }
 
-/// Prints the lines of all eras, those of the first engine before those of the second.
-pub(crate) fn print_eras<K: Sink>(
+/// Prints how many records were chosen.
+#[tactic(auto, unfolding(crate::specs::View::chosen_line))]
+pub(crate) fn print_chosen<K: Sink>(
     alloc: Global,
-    json: bool,
-    tally: &Tally,
+    format: Format,
+    records: u64,
     out: &mut K,
 ) -> Result<(), Stop>
-    ensures prints { OnOk result (Appends (K.held out.old) (K.held out.new) (spec.eras_text json (table_of tally.now.eras) (table_of tally.now.second_eras))) }
-    ensures stops { IfErr result (PartStops (K.held out.old) (K.held out.new) (K.fault_count out.old) (K.fault_count out.new)
-        (spec.eras_text json (table_of tally.now.eras) (table_of tally.now.second_eras))) }
+    ensures prints { OnOk result (Appends (K.held out.old) (K.held out.new) (spec.chosen_line format records)) }
+    ensures stops { IfErr result (PrintStops (K.held out.old) (K.held out.new) (K.fault_count out.old) (K.fault_count out.new) (spec.chosen_line format records)) }
     ensures later { K.fault_count out.old ≤ K.fault_count out.new }
     ensures kept { OnOk result (K.fault_count out.new ≡ K.fault_count out.old) }
 {
-    print_table(alloc, json, false, &tally.eras, out)?;
-    print_table(alloc, json, true, &tally.second_eras, out)
+    match chosen_line(alloc, format, records) {
+        Ok(line) => print(line.as_bytes(), out),
+        Err(_) => Err(Stop::Memory),
+    }
+}
+
+/// Prints the heading of a table of eras.
+pub(crate) fn print_era_heading<K: Sink>(alloc: Global, out: &mut K) -> Result<(), Stop>
+    ensures prints { OnOk result (Appends (K.held out.old) (K.held out.new) spec.era_heading) }
+    ensures stops { IfErr result (PrintStops (K.held out.old) (K.held out.new) (K.fault_count out.old) (K.fault_count out.new) spec.era_heading) }
+    ensures later { K.fault_count out.old ≤ K.fault_count out.new }
+    ensures kept { OnOk result (K.fault_count out.new ≡ K.fault_count out.old) }
+{
+    match heading_of_eras(alloc) {
+        Ok(line) => print(line.as_bytes(), out),
+        Err(_) => Err(Stop::Memory),
+    }
+}
+
+// Returns the heading of a table of eras.
+#[tactic(auto, unfolding(crate::specs::View::era_heading))]
+fn heading_of_eras(alloc: Global) -> Result<String, NoMemory>
+    ensures { IfOk result (λ line. string_bytes line ≡ spec.era_heading) }
+{
+    era_heading(alloc)
+}
+
+/// Prints the lines of all eras, those of the first engine before those of the second.
+pub(crate) fn print_eras<K: Sink>(
+    alloc: Global,
+    format: Format,
+    tally: &Tally,
+    out: &mut K,
+) -> Result<(), Stop>
+    ensures prints { OnOk result (Appends (K.held out.old) (K.held out.new) (spec.eras_text format (table_of tally.now.eras) (table_of tally.now.second_eras))) }
+    ensures stops { IfErr result (PartStops (K.held out.old) (K.held out.new) (K.fault_count out.old) (K.fault_count out.new)
+        (spec.eras_text format (table_of tally.now.eras) (table_of tally.now.second_eras))) }
+    ensures later { K.fault_count out.old ≤ K.fault_count out.new }
+    ensures kept { OnOk result (K.fault_count out.new ≡ K.fault_count out.old) }
+{
+    print_table(alloc, format, false, &tally.eras, out)?;
+    print_table(alloc, format, true, &tally.second_eras, out)
 }
 
 // Prints the lines of the eras of an engine.
 fn print_table<K: Sink>(
     alloc: Global,
-    json: bool,
+    format: Format,
     second: bool,
     eras: &Eras,
     out: &mut K,
 ) -> Result<(), Stop>
-    ensures prints { OnOk result (Appends (K.held out.old) (K.held out.new) (spec.table_text json second (table_of eras.now))) }
-    ensures stops { IfErr result (PartStops (K.held out.old) (K.held out.new) (K.fault_count out.old) (K.fault_count out.new) (spec.table_text json second (table_of eras.now))) }
+    ensures prints { OnOk result (Appends (K.held out.old) (K.held out.new) (spec.table_text format second (table_of eras.now))) }
+    ensures stops { IfErr result (PartStops (K.held out.old) (K.held out.new) (K.fault_count out.old) (K.fault_count out.new) (spec.table_text format second (table_of eras.now))) }
     ensures later { K.fault_count out.old ≤ K.fault_count out.new }
     ensures kept { OnOk result (K.fault_count out.new ≡ K.fault_count out.old) }
 {
@@ -156,52 +199,104 @@ fn print_table<K: Sink>(
         let Some((era, row)) = eras.get_index(place) else {
             unreachable!();
         };
-        print_era(alloc, json, second, *era, row, out)?;
+        print_era(alloc, format, second, *era, row, out)?;
     }
     Ok(())
 }
 
 // Prints the line of an era.
-#[tactic(auto, unfolding(crate::specs::View::era_line))]
 fn print_era<K: Sink>(
     alloc: Global,
-    json: bool,
+    format: Format,
     second: bool,
     era: u32,
     row: &EraRow,
     out: &mut K,
 ) -> Result<(), Stop>
-    ensures prints { OnOk result (Appends (K.held out.old) (K.held out.new) (spec.era_line json second (plain_pair (era, row.now)))) }
-    ensures stops { IfErr result (PrintStops (K.held out.old) (K.held out.new) (K.fault_count out.old) (K.fault_count out.new)) }
+    ensures prints { OnOk result (Appends (K.held out.old) (K.held out.new) (spec.era_line format second (plain_pair (era, row.now)))) }
+    ensures stops { IfErr result (PrintStops (K.held out.old) (K.held out.new) (K.fault_count out.old) (K.fault_count out.new) (spec.era_line format second (plain_pair (era, row.now)))) }
     ensures later { K.fault_count out.old ≤ K.fault_count out.new }
     ensures kept { OnOk result (K.fault_count out.new ≡ K.fault_count out.old) }
 {
-    let view = EraView {
-        era,
-        second,
-        flow: row.flow,
-        first: row.first,
-        last: row.last,
-        records: row.records,
-        octets: row.octets,
-        end: row.end,
-        rules: row.rules.as_slice(),
-    };
-    match era_line(alloc, json, &view) {
+    match line_of_era(alloc, format, second, era, row) {
         Ok(line) => print(line.as_bytes(), out),
         Err(_) => Err(Stop::Memory),
     }
 }
 
-/// Prints the line of a stop, and returns its status: 7 if the output failed. If memory for the line
-/// cannot be allocated, prints `stop memory` and returns 8.
-pub(crate) fn tell<K: Sink>(alloc: Global, stop: Stop, out: &mut K) -> u8
-    ensures told { viewed.Tells stop (K.held out.old) (K.held out.new) (K.fault_count out.old) (K.fault_count out.new) result }
+// Returns the line of an era.
+fn line_of_era(
+    alloc: Global,
+    format: Format,
+    second: bool,
+    era: u32,
+    row: &EraRow,
+) -> Result<String, NoMemory>
+    ensures { IfOk result (λ line. string_bytes line ≡ spec.era_line format second (plain_pair (era, row.now))) }
+{
+    let view = EraView {
+        era,
+        second,
+        flow: row.flow,
+        opened: row.opened,
+        first: row.first,
+        last: row.last,
+        records: row.records,
+        sent: row.sent,
+        octets: octets_of(row.ended),
+        end: reason_of(row.ended),
+        rules: row.rules.as_slice(),
+    };
+    era_line(alloc, format, &view)
+}
+
+// Returns the report's number of octets of an era that ended so.
+fn octets_of(ended: Option<Ended>) -> Option<u64>
+    ensures { result ≡ option_and_then (λ own. own.octets) ended }
+{
+    match ended {
+        Some(ended) => ended.octets,
+        None => None,
+    }
+}
+
+// Returns the reason of an end.
+fn reason_of(ended: Option<Ended>) -> Option<Reason>
+    ensures { result ≡ option_map (λ own. own.reason) ended }
+{
+    match ended {
+        Some(ended) => Some(ended.reason),
+        None => None,
+    }
+}
+
+/// Prints the line of a stop, as JSON if that is asked for, and returns its status: 7 if the output
+/// failed. If memory for the line cannot be allocated, prints `stop memory` and returns 8.
+pub(crate) fn tell<K: Sink>(alloc: Global, json: bool, stop: Stop, out: &mut K) -> u8
+    ensures told { viewed.Tells (format_of_stop json) stop (K.held out.old) (K.held out.new) (K.fault_count out.old) (K.fault_count out.new) result }
     ensures later { K.fault_count out.old ≤ K.fault_count out.new }
 {
-    match stop.line(alloc) {
+    match stop.line(alloc, stop_format(json)) {
         Ok(line) => tell_line(line.as_bytes(), stop.status(), out),
-        Err(_) => tell_line(b"stop memory\n", 8, out),
+        Err(_) => tell_line(memory_line(json), 8, out),
+    }
+}
+
+// Returns the format of the line of a stop.
+fn stop_format(json: bool) -> Format
+    ensures { result ≡ format_of_stop json }
+{
+    if json { Format::Json } else { Format::Text }
+}
+
+// Returns the line that says that memory could not be allocated.
+fn memory_line(json: bool) -> &'static [u8]
+    ensures { result.now ≡ line_of_stop (format_of_stop json) Memory }
+{
+    if json {
+        b"{\"event\":\"stop\",\"status\":8,\"reason\":\"stop memory\"}\n"
+    } else {
+        b"stop memory\n"
     }
 }
 

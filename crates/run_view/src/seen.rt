@@ -2,13 +2,14 @@
 ghost use Rattle.std.specs.Prelude.{◌≡◌, ◌++◌, map, OnOk};
 ghost use Rattle.frame_view.specs.Changes.{changes_of, plain};
 ghost use Rattle.run_view.specs.Items as spec;
+ghost use Rattle.wire_base.specs.declared.address.Link.TheVariants.{Ethernet};
 
 use crate::judged::{Kinds, made_at};
 use edge_io::NoMemory;
 use frame_view::laws::fields_determine_frames;
 use frame_view::{Change, Flow, add_changes, add_made, flow_of, length_of};
 use std::alloc::Global;
-use wire_base::Link;
+use wire_base::{Link, u16_at};
 
 /// Returns what the headers of a record or frame say, where an IPv4 header can be read.
 #[tactic(auto, unfolding(crate::specs::Items::flow_at))]
@@ -16,6 +17,26 @@ pub(crate) fn flow_at(link: Link, octets: &[u8]) -> Option<Flow>
     ensures { result ≡ spec.flow_at link octets.now }
 {
     flow_of(link, octets)
+}
+
+/// Returns the type field of the link header where that is there and no IPv4 header can be read.
+pub(crate) fn type_without(flow: Option<Flow>, link: Link, octets: &[u8]) -> Option<u16>
+    ensures { result ≡ spec.type_without flow link octets.now }
+{
+    match (flow, link) {
+        (None, Link::Ethernet) => type_in(octets),
+        _ => None,
+    }
+}
+
+// Returns the type field of an Ethernet header where that is there.
+fn type_in(octets: &[u8]) -> Option<u16>
+    ensures { result ≡ spec.type_in Ethernet octets.now }
+{
+    if octets.len() < 14 {
+        return None;
+    }
+    Some(u16_at(octets, 12))
 }
 
 /// Returns how many octets its payload has.

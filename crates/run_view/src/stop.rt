@@ -1,10 +1,11 @@
 //! Why a run is not viewed to its end, and the line that says so.
-ghost use Rattle.std.specs.Prelude.{◌≡◌, IfOk, OnErr, string_bytes};
+ghost use Rattle.std.specs.Prelude.{◌≡◌, IfOk, OnErr, option_map, string_bytes};
 ghost use Rattle.run_view.specs.Stops as spec;
 
 use capture_input::InputFault;
 use edge_io::NoMemory;
 use std::alloc::{AllocError, Global};
+use view_text::{Format, stop_line};
 
 /// Why a run is not viewed to its end.
 #[derive(Clone, Copy, Debug, PartialEq, Eq)]
@@ -101,27 +102,39 @@ impl Stop {
         }
     }
 
-    /// Returns the line, with its line feed; none for an output that failed.
-    pub(crate) fn line(self, alloc: Global) -> Result<String, AllocError>
-        ensures made { IfOk result (λ line. string_bytes line ≡ spec.line_of self) }
+    // Returns the words that say why; None for an output that failed.
+    fn reason(self, alloc: Global) -> Result<Option<String>, AllocError>
+        ensures made { IfOk result (λ reason. option_map string_bytes reason ≡ spec.reason_of self) }
         ensures unmade { OnErr result (spec.HasLine self) }
     {
-        match self {
-            Stop::Words => String::from_str(alloc, "stop words\n"),
-            Stop::Record(number) => format!(in alloc; "no record {number}\n"),
-            Stop::Frame(number) => format!(in alloc; "no frame {number}\n"),
+        let reason = match self {
+            Stop::Words => String::from_str(alloc, "stop words")?,
+            Stop::Record(number) => format!(in alloc; "no record {number}")?,
+            Stop::Frame(number) => format!(in alloc; "no frame {number}")?,
             Stop::Input { fault, offset } => {
                 let word = fault_word(fault);
-                format!(in alloc; "stop in {word} {offset}\n")
+                format!(in alloc; "stop in {word} {offset}")?
             }
             Stop::Output { fault, offset } => {
                 let word = fault_word(fault);
-                format!(in alloc; "stop out {word} {offset}\n")
+                format!(in alloc; "stop out {word} {offset}")?
             }
-            Stop::Unread => String::from_str(alloc, "stop read\n"),
-            Stop::Unwritten => Ok(String::new(alloc)),
-            Stop::Memory => String::from_str(alloc, "stop memory\n"),
-            Stop::Report(line) => format!(in alloc; "stop report {line}\n"),
+            Stop::Unread => String::from_str(alloc, "stop read")?,
+            Stop::Unwritten => return Ok(None),
+            Stop::Memory => String::from_str(alloc, "stop memory")?,
+            Stop::Report(line) => format!(in alloc; "stop report {line}")?,
+        };
+        Ok(Some(reason))
+    }
+
+    /// Returns the line, with its line feed; none for an output that failed.
+    pub(crate) fn line(self, alloc: Global, format: Format) -> Result<String, NoMemory>
+        ensures made { IfOk result (λ line. string_bytes line ≡ spec.stop_line format self) }
+        ensures unmade { OnErr result (spec.HasLine self) }
+    {
+        match self.reason(alloc)? {
+            Some(reason) => stop_line(alloc, format, self.status(), reason.as_str()),
+            None => Ok(String::new(alloc)),
         }
     }
 }

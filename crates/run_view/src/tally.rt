@@ -1,20 +1,20 @@
 //! What is counted over a run.
-ghost use Rattle.std.specs.Prelude.{◌≡◌, OnOk, [], map};
+ghost use Rattle.std.specs.Prelude.{◌≡◌, OnOk, [], map, true, false, Some};
 ghost use Rattle.rule_book.specs.Entries.{plain};
 ghost use Rattle.run_view.specs.Eras as rows;
 ghost use Rattle.run_view.specs.Items.{if_inward as if_inward_of};
-ghost use Rattle.run_view.specs.Steps.{is_of_era as is_of_era_by};
+ghost use Rattle.run_view.specs.Steps.{wants_of as wants_of_line};
 ghost use Rattle.run_view.specs.Rows.{table_of};
 ghost use Rattle.run_view.specs.Summary as spec;
 
-use crate::eras::{Eras, Told, add_record, begin, bring, end_all};
-use crate::item::Gathered;
+use crate::eras::{Eras, Told, add_record, begin, bring, end_all, from_outside};
+use crate::item::{Gathered, Wants};
 use crate::judged::Judged;
 use edge_io::NoMemory;
 use indexmap::IndexMap;
-use rule_book::{Entry, Reason, Rule, Verdict};
+use rule_book::{Ended, Entry, Reason, Rule, Verdict};
 use std::alloc::Global;
-use view_text::{Counts, EraCounts, RuleCount, Sides};
+use view_text::{Counts, EraCounts, Opened, RuleCount, Sides};
 use wire_base::Side;
 
 /// What is known of a run so far.
@@ -24,7 +24,7 @@ pub(crate) struct Tally {
     pub(crate) sides: Sides,
     /// The same of the second engine.
     pub(crate) second_sides: Sides,
-    /// How many entries name each rule, in the order in which they are named first.
+    /// How many entries name each rule, by side, in the order in which they are named first.
     pub(crate) rules: Vec<RuleCount>,
     /// The eras of the first engine.
     pub(crate) eras: Eras,
@@ -61,13 +61,13 @@ impl Tally {
     ) -> Result<(), NoMemory>
         ensures sides { OnOk result (self.new.sides ≡ spec.with_side (plain entry.now).side (plain entry.now).verdict self.old.sides) }
         ensures second_sides { OnOk result (self.new.second_sides ≡ self.old.second_sides) }
-        ensures rules { OnOk result (self.new.rules.items ≡ spec.all_counted (plain entry.now).rules self.old.rules.items) }
-        ensures eras { OnOk result (table_of self.new.eras ≡ rows.with_entry (plain entry.now) time (if_inward_of (plain entry.now).side gathered.now.octets) gathered.now.flow (table_of self.old.eras)) }
+        ensures rules { OnOk result (self.new.rules.items ≡ spec.all_counted (plain entry.now).side (plain entry.now).rules self.old.rules.items) }
+        ensures eras { OnOk result (table_of self.new.eras ≡ rows.with_entry false (plain entry.now) time (if_inward_of (plain entry.now).side gathered.now.octets) gathered.now.flow (table_of self.old.eras)) }
         ensures second_eras { OnOk result (table_of self.new.second_eras ≡ table_of self.old.second_eras) }
     {
         add_to_side(&mut self.sides, entry.side, entry.verdict);
-        count_rules(&mut self.rules, entry.rules.as_slice())?;
-        note_eras(alloc, &mut self.eras, entry, time, gathered)
+        count_rules(&mut self.rules, entry.side, entry.rules.as_slice())?;
+        note_eras(alloc, &mut self.eras, false, entry, time, gathered)
     }
 
     /// Counts a line of the second engine, for a record of which the first said this.
@@ -81,24 +81,27 @@ impl Tally {
     ) -> Result<(), NoMemory>
         ensures sides { OnOk result (self.new.sides ≡ self.old.sides) }
         ensures second_sides { OnOk result (self.new.second_sides ≡ spec.with_side (plain entry.now).side (plain entry.now).verdict self.old.second_sides) }
-        ensures rules { OnOk result (self.new.rules.items ≡ spec.all_counted (plain entry.now).rules self.old.rules.items) }
-        ensures eras { OnOk result (table_of self.new.eras ≡ rows.changed_if judged.era (rows.with_octets (if_inward_of judged.side gathered.now.octets)) (table_of self.old.eras)) }
-        ensures second_eras { OnOk result (table_of self.new.second_eras ≡ rows.with_entry (plain entry.now) time (if_inward_of (plain entry.now).side gathered.now.octets) gathered.now.flow (table_of self.old.second_eras)) }
+        ensures rules { OnOk result (self.new.rules.items ≡ spec.all_counted (plain entry.now).side (plain entry.now).rules self.old.rules.items) }
+        ensures eras { OnOk result (table_of self.new.eras ≡ rows.changed_if judged.era (rows.with_sent (if_inward_of judged.side gathered.now.octets)) (table_of self.old.eras)) }
+        ensures second_eras { OnOk result (table_of self.new.second_eras ≡ rows.with_entry true (plain entry.now) time (if_inward_of (plain entry.now).side gathered.now.octets) gathered.now.flow (table_of self.old.second_eras)) }
     {
         add_to_side(&mut self.second_sides, entry.side, entry.verdict);
-        count_rules(&mut self.rules, entry.rules.as_slice())?;
+        count_rules(&mut self.rules, entry.side, entry.rules.as_slice())?;
         let octets = if_inward(judged.side, gathered.octets);
         bring(alloc, &mut self.eras, judged.era, octets)?;
-        note_eras(alloc, &mut self.second_eras, entry, time, gathered)
+        note_eras(alloc, &mut self.second_eras, true, entry, time, gathered)
     }
 }
 
-/// Returns whether a line is of an era: of this one of the first engine, or of one that it belongs
-/// to or begins.
-pub(crate) fn is_of_era(first: Option<u32>, entry: &Entry) -> bool
-    ensures { result ≡ is_of_era_by first (plain entry.now) }
+/// Returns what is wanted of a line, whose record belongs to this era of the first engine.
+pub(crate) fn wants_of(first: Option<u32>, entry: &Entry) -> Wants
+    ensures { result ≡ wants_of_line first (plain entry.now) }
 {
-    first.is_some() || entry.era.is_some() || entry.begun.is_some()
+    let of_era = first.is_some() || entry.era.is_some() || entry.begun.is_some();
+    Wants {
+        flow: entry.begun.is_some(),
+        octets: of_era,
+    }
 }
 
 // Returns a count of what goes inwards.
@@ -132,15 +135,16 @@ fn no_sides() -> Sides
     }
 }
 
-// Notes what an entry says of eras.
+// Notes what an entry by an engine says of eras.
 fn note_eras(
     alloc: Global,
     eras: &mut Eras,
+    second: bool,
     entry: &Entry,
     time: u64,
     gathered: &Gathered,
 ) -> Result<(), NoMemory>
-    ensures { OnOk result (table_of eras.new ≡ rows.with_entry (plain entry.now) time (if_inward_of (plain entry.now).side gathered.now.octets) gathered.now.flow (table_of eras.old)) }
+    ensures { OnOk result (table_of eras.new ≡ rows.with_entry second (plain entry.now) time (if_inward_of (plain entry.now).side gathered.now.octets) gathered.now.flow (table_of eras.old)) }
 {
     let told = Told {
         time,
@@ -148,7 +152,8 @@ fn note_eras(
         rules: entry.rules.as_slice(),
     };
     add_record(alloc, eras, entry.era, told)?;
-    begin(alloc, eras, entry.begun, gathered.flow)?;
+    let outside = from_outside(second, entry.side);
+    begin(alloc, eras, entry.begun, outside, gathered.flow)?;
     end_all(alloc, eras, entry.ended.as_slice())
 }
 
@@ -175,43 +180,56 @@ fn add_verdict(counts: &mut Counts, verdict: Verdict)
     }
 }
 
-// Counts a line that names these rules.
-fn count_rules(counts: &mut Vec<RuleCount>, rules: &[Rule]) -> Result<(), NoMemory>
-    ensures { OnOk result (counts.new.items ≡ spec.all_counted rules.now counts.old.items) }
+// Counts a line of this side that names these rules.
+fn count_rules(
+    counts: &mut Vec<RuleCount>,
+    side: Option<Side>,
+    rules: &[Rule],
+) -> Result<(), NoMemory>
+    ensures { OnOk result (counts.new.items ≡ spec.all_counted side rules.now counts.old.items) }
 {
     for rule in rules {
-        count_rule(counts, *rule)?;
+        count_rule(counts, side, *rule)?;
     }
     Ok(())
 }
 
-// Counts a line that names this rule.
-fn count_rule(counts: &mut Vec<RuleCount>, rule: Rule) -> Result<(), NoMemory>
-    ensures { OnOk result (counts.new.items ≡ spec.counted rule counts.old.items) }
+// Counts a line of this side that names this rule.
+fn count_rule(counts: &mut Vec<RuleCount>, side: Option<Side>, rule: Rule) -> Result<(), NoMemory>
+    ensures { OnOk result (counts.new.items ≡ spec.counted side rule counts.old.items) }
 {
     let number = rule.number();
     for place in 0..counts.len() {
-        let count = counts[place];
+        let mut count = counts[place];
         if count.rule.number() == number {
-            counts[place] = with_line(count);
+            add_line(&mut count, side);
+            counts[place] = count;
             return Ok(());
         }
     }
-    counts.push(RuleCount { rule, lines: 1 })?;
+    let mut count = RuleCount {
+        rule,
+        inward: 0,
+        outward: 0,
+        neither: 0,
+    };
+    add_line(&mut count, side);
+    counts.push(count)?;
     Ok(())
 }
 
-// Adds a line to a count.
-fn with_line(count: RuleCount) -> RuleCount
-    ensures { result ≡ spec.with_line count }
+// Adds a line of this side to a count.
+fn add_line(count: &mut RuleCount, side: Option<Side>)
+    ensures { count.new ≡ spec.with_line side count.old }
 {
-    RuleCount {
-        lines: count.lines.saturating_add(1),
-        ..count
+    match side {
+        Some(Side::Inward) => count.inward = count.inward.saturating_add(1),
+        Some(Side::Outward) => count.outward = count.outward.saturating_add(1),
+        None => count.neither = count.neither.saturating_add(1),
     }
 }
 
-/// Counts the eras of both engines by how they ended.
+/// Counts the eras of both engines by how they were opened and ended.
 pub(crate) fn era_counts(tally: &Tally) -> EraCounts
     ensures { result ≡ spec.with_eras (table_of tally.now.second_eras) (spec.with_eras (table_of tally.now.eras) spec.no_eras) }
 {
@@ -222,6 +240,9 @@ pub(crate) fn era_counts(tally: &Tally) -> EraCounts
         evicted: 0,
         idle: 0,
         reopened: 0,
+        opened_in: 0,
+        opened_out: 0,
+        opened_mid: 0,
     };
     let first = with_eras(&tally.eras, none);
     with_eras(&tally.second_eras, first)
@@ -236,39 +257,44 @@ fn with_eras(eras: &Eras, before: EraCounts) -> EraCounts
         let Some((_, row)) = eras.get_index(place) else {
             unreachable!();
         };
-        counts = with_era(row.end, counts);
+        counts = with_era(row.opened, row.ended, counts);
     }
     counts
 }
 
-// Adds an era that ended so.
-fn with_era(end: Option<Reason>, counts: EraCounts) -> EraCounts
-    ensures { result ≡ spec.with_era end counts }
+// Adds an era that was opened and ended so.
+fn with_era(opened: Option<Opened>, ended: Option<Ended>, before: EraCounts) -> EraCounts
+    ensures { result ≡ spec.with_era opened ended before }
 {
-    let counts = EraCounts {
-        all: counts.all.saturating_add(1),
-        ..counts
-    };
-    match end {
-        None => EraCounts {
-            live: counts.live.saturating_add(1),
-            ..counts
-        },
-        Some(Reason::Reset) => EraCounts {
-            reset: counts.reset.saturating_add(1),
-            ..counts
-        },
-        Some(Reason::Evicted) => EraCounts {
-            evicted: counts.evicted.saturating_add(1),
-            ..counts
-        },
-        Some(Reason::Idle) => EraCounts {
-            idle: counts.idle.saturating_add(1),
-            ..counts
-        },
-        Some(Reason::Reopened) => EraCounts {
-            reopened: counts.reopened.saturating_add(1),
-            ..counts
-        },
+    let mut counts = before;
+    counts.all = counts.all.saturating_add(1);
+    match ended {
+        None => counts.live = counts.live.saturating_add(1),
+        Some(ended) => add_end(&mut counts, ended.reason),
+    }
+    if let Some(opened) = opened {
+        add_opened(&mut counts, opened);
+    }
+    counts
+}
+
+fn add_end(counts: &mut EraCounts, reason: Reason)
+    ensures { counts.new ≡ spec.with_end reason counts.old }
+{
+    match reason {
+        Reason::Reset => counts.reset = counts.reset.saturating_add(1),
+        Reason::Evicted => counts.evicted = counts.evicted.saturating_add(1),
+        Reason::Idle => counts.idle = counts.idle.saturating_add(1),
+        Reason::Reopened => counts.reopened = counts.reopened.saturating_add(1),
+    }
+}
+
+fn add_opened(counts: &mut EraCounts, opened: Opened)
+    ensures { counts.new ≡ spec.with_opened (Some opened) counts.old }
+{
+    match opened {
+        Opened::In => counts.opened_in = counts.opened_in.saturating_add(1),
+        Opened::Out => counts.opened_out = counts.opened_out.saturating_add(1),
+        Opened::Mid => counts.opened_mid = counts.opened_mid.saturating_add(1),
     }
 }

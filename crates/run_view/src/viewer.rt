@@ -10,34 +10,37 @@ ghost use Rattle.rule_book.specs.Reports.{IsEntryOf};
 ghost use Rattle.run_view.specs.Ahead.{left_in};
 ghost use Rattle.run_view.specs.Forms.{version_of as version_of_form};
 ghost use Rattle.run_view.specs.Items.{Item, line_by, waits};
-ghost use Rattle.run_view.specs.Printed.{PartStops, PrintStops, record_shown};
-ghost use Rattle.run_view.specs.SoFar.{Ends, IsFresh, MayTake, SoFar, Taken, WentOn, WentOnBy, Whole, closing_shown, ends_of, lines_in, turn_in};
-ghost use Rattle.run_view.specs.Causes.{EntriesStop, StopWhy, counts_of, frames_by, sources_of};
+ghost use Rattle.run_view.specs.Printed.{PartStops};
+ghost use Rattle.run_view.specs.SoFar.{Ends, IsFresh, MayTake, SoFar, Taken, WentOn, WentOnBy, Whole, closing_shown, ends_of, summed_shown, lines_in, turn_in};
+ghost use Rattle.run_view.specs.Causes.{EntriesStop, FilesStop, counts_of, frames_by, sources_of};
 ghost use Rattle.run_view.specs.Going.{Going, IsSameRun, StepsTo};
-ghost use Rattle.run_view.specs.Why.{TakeStops, taking_of};
+ghost use Rattle.run_view.specs.Why.{LineStops};
 ghost use Rattle.run_view.specs.Standing.{InputAt, IsBehind, OutputAt};
-ghost use Rattle.run_view.specs.View as spec;
 ghost use Rattle.run_view.specs.Viewed as viewed;
 ghost use Rattle.run_view.specs.Words.{asked_in as words_ask};
 
 use crate::Stop;
-use crate::chosen::{has_choice, is_printed};
+use crate::chosen::has_choice;
 use crate::ends::{check_ends, flush};
 use crate::form::{Form, answers, is_both, own_frames, read_form, version_of};
-use crate::item::{Files, Frames, Gathered, Held, ROOM, gather, hold, nothing, time_of};
+use crate::item::{Files, Frames, Held, ROOM, gather, hold, nothing, time_of};
 use crate::judged::{Judged, kinds_by, second_kinds};
 use crate::line::Lines;
-use crate::print::{Shown, Size, print_eras, print_record, print_summary, tell};
+use crate::print::{
+    Shown, Size, print_chosen, print_era_heading, print_eras, print_opening, print_summary, tell,
+};
 use crate::seen::Original;
+use crate::show::{Printing, note_line, print_due};
 use crate::sources::{next_record, open_input, open_output};
-use crate::tally::{Tally, is_of_era};
+use crate::tally::{Tally, wants_of};
 use crate::told::{Turn, entry_part, is_last};
-use crate::words::{Asked, asked_in};
+use crate::words::{Asked, Print, asked_in, asks_json};
 use capture_input::Input;
 use edge_io::{NoMemory, Sink, Source};
 use pcap_file::Reader;
 use rule_book::{Entry, read_entry};
 use std::alloc::Global;
+use view_text::Format;
 
 /// How far a view has come.
 #[derive(Drop)]
@@ -53,6 +56,7 @@ pub(crate) struct Viewer {
     /// How many lines of the second engine were read.
     second_count: u64,
     tally: Tally,
+    printing: Printing,
 }
 
 /// Views a finished run: reads the capture that was its input, the capture that it wrote and its
@@ -69,7 +73,8 @@ pub(crate) struct Viewer {
 /// - 8, `stop memory`, if memory could not be allocated;
 /// - 9, `stop report N`, if the report is that of no finished run, by its line N.
 ///
-/// The line of a status other than 0 and 7 is the last one that is printed.
+/// The line of a status other than 0 and 7 is the last one that is printed, as JSON if a word is
+/// `--json`, also of words that are refused.
 pub fn view<I: Source, O: Source, R: Source, K: Sink>(
     alloc: Global,
     words: &[String],
@@ -95,12 +100,13 @@ pub fn view<I: Source, O: Source, R: Source, K: Sink>(
     ensures report_later { R.fault_count report.old ≤ R.fault_count report.new }
     ensures out_later { K.fault_count out.old ≤ K.fault_count out.new }
 {
+    let json = asks_json(words);
     let Some(asked) = asked_in(words) else {
-        return tell(alloc, Stop::Words, out);
+        return tell(alloc, json, Stop::Words, out);
     };
     match view_asked(alloc, asked, input, output, report, out) {
         Ok(()) => 0,
-        Err(stop) => tell(alloc, stop, out),
+        Err(stop) => tell(alloc, json, stop, out),
     }
 }
 
@@ -114,7 +120,7 @@ fn view_asked<I: Source, O: Source, R: Source, K: Sink>(
     out: &mut K,
 ) -> Result<(), Stop>
     ensures viewed { OnOk result (viewed.ViewedAs asked (I.left input.old) (O.left output.old) (R.left report.old) (K.held out.old) (K.held out.new)) }
-    ensures stops { IfErr result (StopWhy asked (sources_of (I.left input.old) (O.left output.old) (R.left report.old)) (K.held out.old) (K.held out.new)
+    ensures stops { IfErr result (FilesStop asked (sources_of (I.left input.old) (O.left output.old) (R.left report.old)) (K.held out.old) (K.held out.new)
         (counts_of (I.fault_count input.old) (O.fault_count output.old) (R.fault_count report.old) (K.fault_count out.old))
         (counts_of (I.fault_count input.new) (O.fault_count output.new) (R.fault_count report.new) (K.fault_count out.new))) }
     ensures input_later { I.fault_count input.old ≤ I.fault_count input.new }
@@ -131,8 +137,8 @@ fn view_asked<I: Source, O: Source, R: Source, K: Sink>(
     let mut lines = Lines::new(alloc)?;
     let form = read_form(&mut lines, report)?;
     let mut viewer = new_viewer(alloc, asked, form, lines, reader, frames)?;
-    view_entries(alloc, &mut viewer, input, output, report, out)?;
-    flush(out)
+    print_opening(alloc, asked.print, out)?;
+    view_entries(alloc, &mut viewer, input, output, report, out)
 }
 
 // Returns a view before the first record.
@@ -183,6 +189,7 @@ fn new_viewer(
         owed: 0,
         second_count: 0,
         tally: Tally::new(alloc),
+        printing: Printing::new(alloc),
     })
 }
 
@@ -271,7 +278,8 @@ fn step<I: Source, O: Source, R: Source, K: Sink>(
             if u64::from(entry.number) != turn.done + 1 {
                 return Err(Stop::Report(number));
             }
-            take(alloc, viewer, entry, input, output, out)?;
+            take(alloc, viewer, entry, input, output)?;
+            print_due(&viewer.printing, out)?;
             Ok(true)
         }
         None if is_last(text, turn) => Ok(false),
@@ -299,73 +307,66 @@ fn turn(viewer: &Viewer) -> Turn
     }
 }
 
-// Reads the record and the frames of a line, counts them, and prints them if they are chosen.
-fn take<I: Source, O: Source, K: Sink>(
+// Reads the record and the frames of a line, counts them, and notes what is printed of them.
+fn take<I: Source, O: Source>(
     alloc: Global,
     viewer: &mut Viewer,
     entry: &Entry,
     input: &mut I,
     output: &mut O,
-    out: &mut K,
 ) -> Result<(), Stop>
     requires may { MayTake viewer.old }
-    ensures taken { OnOk result ((head : Head) (before : Ends) (items : List Item) →
-        SoFar viewer.old head before (ends_of (I.left input.old) (O.left output.old) (K.held out.old)) items →
+    ensures taken { OnOk result ((head : Head) (before : Ends) (printed : Option (List ℕ)) (items : List Item) →
+        SoFar viewer.old head before (ends_of (I.left input.old) (O.left output.old) printed) items →
         IsEntryOf (version_of_form viewer.old.form) (plain entry.now) → entry.now.number ≡ (turn_in viewer.old).done + 1 →
-        Taken viewer.new head before (ends_of (I.left input.new) (O.left output.new) (K.held out.new)) items (line_by (turn_in viewer.old).second (plain entry.now))) }
+        Taken viewer.new head before (ends_of (I.left input.new) (O.left output.new) printed) items (line_by (turn_in viewer.old).second (plain entry.now))) }
     ensures went { OnOk result (WentOn viewer.old viewer.new) }
     ensures stops { IfErr result (λ stop. (read written : Option (List ℕ)) (head : Head) (records frames : List Packet) →
         InputAt viewer.old.files.input viewer.old.files.head read (I.left input.old) records → OutputAt viewer.old.files.frames.reader head written (O.left output.old) frames →
-        TakeStops (waits viewer.old.owed) viewer.old.files read written head records frames (frames_by (waits viewer.old.owed) viewer.old.form (plain entry.now))
-        (taking_of (I.fault_count input.old) (I.fault_count input.new) (O.fault_count output.old) (O.fault_count output.new)
-        (K.fault_count out.old) (K.fault_count out.new) (K.held out.old) (K.held out.new)) stop) }
+        LineStops (waits viewer.old.owed) viewer.old.files read written head records frames (frames_by (waits viewer.old.owed) viewer.old.form (plain entry.now))
+        (I.fault_count input.old) (I.fault_count input.new) (O.fault_count output.old) (O.fault_count output.new) stop) }
     ensures input_later { I.fault_count input.old ≤ I.fault_count input.new }
     ensures input_kept { OnOk result (I.fault_count input.new ≡ I.fault_count input.old) }
     ensures output_later { O.fault_count output.old ≤ O.fault_count output.new }
     ensures output_kept { OnOk result (O.fault_count output.new ≡ O.fault_count output.old) }
-    ensures out_later { K.fault_count out.old ≤ K.fault_count out.new }
-    ensures out_kept { OnOk result (K.fault_count out.new ≡ K.fault_count out.old) }
 {
     if viewer.owed == 0 {
-        take_first(alloc, viewer, entry, input, output, out)
+        take_first(alloc, viewer, entry, input, output)
     } else {
-        take_second(alloc, viewer, entry, output, out)
+        take_second(alloc, viewer, entry, output)
     }
 }
 
 // Takes a line of the first engine.
-fn take_first<I: Source, O: Source, K: Sink>(
+fn take_first<I: Source, O: Source>(
     alloc: Global,
     viewer: &mut Viewer,
     entry: &Entry,
     input: &mut I,
     output: &mut O,
-    out: &mut K,
 ) -> Result<(), Stop>
     requires may { MayTake viewer.old }
     requires none_owed { viewer.old.owed ≡ 0 }
-    ensures taken { OnOk result ((head : Head) (before : Ends) (items : List Item) →
-        SoFar viewer.old head before (ends_of (I.left input.old) (O.left output.old) (K.held out.old)) items →
+    ensures taken { OnOk result ((head : Head) (before : Ends) (printed : Option (List ℕ)) (items : List Item) →
+        SoFar viewer.old head before (ends_of (I.left input.old) (O.left output.old) printed) items →
         IsEntryOf (version_of_form viewer.old.form) (plain entry.now) → entry.now.number ≡ viewer.old.files.count + 1 →
-        Taken viewer.new head before (ends_of (I.left input.new) (O.left output.new) (K.held out.new)) items (line_by false (plain entry.now))) }
+        Taken viewer.new head before (ends_of (I.left input.new) (O.left output.new) printed) items (line_by false (plain entry.now))) }
     ensures went { OnOk result (WentOnBy false viewer.old viewer.new) }
     ensures stops { IfErr result (λ stop. (read written : Option (List ℕ)) (head : Head) (records frames : List Packet) →
         InputAt viewer.old.files.input viewer.old.files.head read (I.left input.old) records → OutputAt viewer.old.files.frames.reader head written (O.left output.old) frames →
-        TakeStops false viewer.old.files read written head records frames (frames_by false viewer.old.form (plain entry.now))
-        (taking_of (I.fault_count input.old) (I.fault_count input.new) (O.fault_count output.old) (O.fault_count output.new)
-        (K.fault_count out.old) (K.fault_count out.new) (K.held out.old) (K.held out.new)) stop) }
+        LineStops false viewer.old.files read written head records frames (frames_by false viewer.old.form (plain entry.now))
+        (I.fault_count input.old) (I.fault_count input.new) (O.fault_count output.old) (O.fault_count output.new) stop) }
     ensures input_later { I.fault_count input.old ≤ I.fault_count input.new }
     ensures input_kept { OnOk result (I.fault_count input.new ≡ I.fault_count input.old) }
     ensures output_later { O.fault_count output.old ≤ O.fault_count output.new }
     ensures output_kept { OnOk result (O.fault_count output.new ≡ O.fault_count output.old) }
-    ensures out_later { K.fault_count out.old ≤ K.fault_count out.new }
-    ensures out_kept { OnOk result (K.fault_count out.new ≡ K.fault_count out.old) }
 {
     let files = &mut viewer.files;
     let Some(record) = next_record(&mut files.input, input, &mut files.buffer[..])? else {
         return Err(Stop::Record(files.count + 1));
     };
     files.count += 1;
+    let before = files.frames.count;
     let octets = record.bytes;
     let time = time_of(files.head, record.seconds, record.fraction);
     let original = Original {
@@ -373,7 +374,7 @@ fn take_first<I: Source, O: Source, K: Sink>(
         kinds: kinds_by(entry, false, false),
         octets,
     };
-    let mut gathered = nothing(alloc, original, is_of_era(None, entry));
+    let mut gathered = nothing(alloc, original, wants_of(None, entry));
     let packets = own_frames(viewer.form, entry.packets);
     gather(
         alloc,
@@ -388,41 +389,48 @@ fn take_first<I: Source, O: Source, K: Sink>(
     hold(viewer.owed, entry, octets, time, &mut viewer.held)?;
     let shown = Shown {
         second: false,
+        given: is_both(viewer.form),
         number: entry.number,
         time,
         link: files.head.link,
         octets,
         entry,
+        before,
     };
-    print_chosen(alloc, viewer.asked, shown, &gathered, out)
+    note_line(
+        alloc,
+        &viewer.asked,
+        shown,
+        viewer.owed,
+        &gathered,
+        &mut viewer.printing,
+    )?;
+    Ok(())
 }
 
 // Takes a line of the second engine.
-fn take_second<O: Source, K: Sink>(
+fn take_second<O: Source>(
     alloc: Global,
     viewer: &mut Viewer,
     entry: &Entry,
     output: &mut O,
-    out: &mut K,
 ) -> Result<(), Stop>
     requires may { MayTake viewer.old }
     requires owed { 0 < viewer.old.owed }
-    ensures taken { OnOk result ((read : Option (List ℕ)) (head : Head) (before : Ends) (items : List Item) →
-        SoFar viewer.old head before (ends_of read (O.left output.old) (K.held out.old)) items →
+    ensures taken { OnOk result ((read : Option (List ℕ)) (head : Head) (before : Ends) (printed : Option (List ℕ)) (items : List Item) →
+        SoFar viewer.old head before (ends_of read (O.left output.old) printed) items →
         IsEntryOf (version_of_form viewer.old.form) (plain entry.now) → entry.now.number ≡ viewer.old.second_count + 1 →
-        Taken viewer.new head before (ends_of read (O.left output.new) (K.held out.new)) items (line_by true (plain entry.now))) }
+        Taken viewer.new head before (ends_of read (O.left output.new) printed) items (line_by true (plain entry.now))) }
     ensures went { OnOk result (WentOnBy true viewer.old viewer.new) }
     ensures stops { IfErr result (λ stop. (read written : Option (List ℕ)) (head : Head) (records frames : List Packet) (n : ℕ) →
         OutputAt viewer.old.files.frames.reader head written (O.left output.old) frames →
-        TakeStops true viewer.old.files read written head records frames (frames_by true viewer.old.form (plain entry.now))
-        (taking_of n n (O.fault_count output.old) (O.fault_count output.new)
-        (K.fault_count out.old) (K.fault_count out.new) (K.held out.old) (K.held out.new)) stop) }
+        LineStops true viewer.old.files read written head records frames (frames_by true viewer.old.form (plain entry.now))
+        n n (O.fault_count output.old) (O.fault_count output.new) stop) }
     ensures output_later { O.fault_count output.old ≤ O.fault_count output.new }
     ensures output_kept { OnOk result (O.fault_count output.new ≡ O.fault_count output.old) }
-    ensures out_later { K.fault_count out.old ≤ K.fault_count out.new }
-    ensures out_kept { OnOk result (K.fault_count out.new ≡ K.fault_count out.old) }
 {
     viewer.owed -= 1;
+    let before = viewer.files.frames.count;
     let held = &viewer.held;
     let octets = held.octets.as_slice();
     let original = Original {
@@ -430,7 +438,7 @@ fn take_second<O: Source, K: Sink>(
         kinds: second_kinds(entry, held.judged, viewer.owed),
         octets,
     };
-    let mut gathered = nothing(alloc, original, is_of_era(held.judged.era, entry));
+    let mut gathered = nothing(alloc, original, wants_of(held.judged.era, entry));
     let frames = &mut viewer.files.frames;
     gather(
         alloc,
@@ -445,55 +453,69 @@ fn take_second<O: Source, K: Sink>(
     viewer.second_count += 1;
     let shown = Shown {
         second: true,
+        given: false,
         number: held.judged.number,
         time: held.time,
         link: viewer.files.head.link,
         octets,
         entry,
+        before,
     };
-    print_chosen(alloc, viewer.asked, shown, &gathered, out)
+    note_line(
+        alloc,
+        &viewer.asked,
+        shown,
+        viewer.owed,
+        &gathered,
+        &mut viewer.printing,
+    )?;
+    Ok(())
 }
 
-// Prints a line if it is chosen.
-#[inline(always)]
-fn print_chosen<K: Sink>(
-    alloc: Global,
-    asked: Asked,
-    shown: Shown<'_>,
-    gathered: &Gathered,
-    out: &mut K,
-) -> Result<(), Stop>
-    ensures prints { OnOk result (Appends (K.held out.old) (K.held out.new) (if spec.is_printed asked (plain shown.entry.entry.now)
-        then spec.record_line asked.json (record_shown shown.entry.second shown.entry.number shown.entry.time shown.entry.link shown.entry.octets.now shown.entry.entry.now gathered.now) else [])) }
-    ensures stops { IfErr result (PrintStops (K.held out.old) (K.held out.new) (K.fault_count out.old) (K.fault_count out.new)) }
-    ensures later { K.fault_count out.old ≤ K.fault_count out.new }
-    ensures kept { OnOk result (K.fault_count out.new ≡ K.fault_count out.old) }
-{
-    if is_printed(asked, shown.entry) {
-        print_record(alloc, asked.json, shown, gathered, out)
-    } else {
-        Ok(())
-    }
-}
-
-// Prints what is printed at the end if no condition is given.
+// Prints what is printed at the end, and flushes the output.
 fn close<K: Sink>(alloc: Global, viewer: &Viewer, out: &mut K) -> Result<(), Stop>
     ensures prints { OnOk result (Appends (K.held out.old) (K.held out.new) (closing_shown viewer.now)) }
     ensures stops { IfErr result (PartStops (K.held out.old) (K.held out.new) (K.fault_count out.old) (K.fault_count out.new) (closing_shown viewer.now)) }
     ensures later { K.fault_count out.old ≤ K.fault_count out.new }
     ensures kept { OnOk result (K.fault_count out.new ≡ K.fault_count out.old) }
 {
-    if has_choice(viewer.asked) {
-        return Ok(());
+    print_end(alloc, viewer, out)?;
+    flush(out)
+}
+
+// Prints what is printed at the end.
+fn print_end<K: Sink>(alloc: Global, viewer: &Viewer, out: &mut K) -> Result<(), Stop>
+    ensures prints { OnOk result (Appends (K.held out.old) (K.held out.new) (closing_shown viewer.now)) }
+    ensures stops { IfErr result (PartStops (K.held out.old) (K.held out.new) (K.fault_count out.old) (K.fault_count out.new) (closing_shown viewer.now)) }
+    ensures later { K.fault_count out.old ≤ K.fault_count out.new }
+    ensures kept { OnOk result (K.fault_count out.new ≡ K.fault_count out.old) }
+{
+    match viewer.asked.print {
+        Print::Text => sum_up(alloc, Format::Text, viewer, out),
+        Print::Json => sum_up(alloc, Format::Json, viewer, out),
+        Print::Records => Ok(()),
+        Print::Eras => {
+            print_era_heading(alloc, out)?;
+            print_eras(alloc, Format::Table, &viewer.tally, out)
+        }
     }
-    if viewer.asked.json {
-        return print_eras(alloc, true, &viewer.tally, out);
+}
+
+// Prints how many records were chosen, if a condition is given, else the summary and the eras.
+fn sum_up<K: Sink>(alloc: Global, format: Format, viewer: &Viewer, out: &mut K) -> Result<(), Stop>
+    ensures prints { OnOk result (Appends (K.held out.old) (K.held out.new) (summed_shown format viewer.now)) }
+    ensures stops { IfErr result (PartStops (K.held out.old) (K.held out.new) (K.fault_count out.old) (K.fault_count out.new) (summed_shown format viewer.now)) }
+    ensures later { K.fault_count out.old ≤ K.fault_count out.new }
+    ensures kept { OnOk result (K.fault_count out.new ≡ K.fault_count out.old) }
+{
+    if has_choice(&viewer.asked) {
+        return print_chosen(alloc, format, viewer.printing.records, out);
     }
     let size = Size {
         both: is_both(viewer.form),
         records: viewer.files.count,
         frames: viewer.files.frames.count,
     };
-    print_summary(alloc, size, &viewer.tally, out)?;
-    print_eras(alloc, false, &viewer.tally, out)
+    print_summary(alloc, format, size, &viewer.tally, out)?;
+    print_eras(alloc, format, &viewer.tally, out)
 }

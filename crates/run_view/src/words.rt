@@ -1,33 +1,60 @@
 //! The words of a view.
-ghost use Rattle.std.specs.Prelude.{◌≡◌, ◌≤◌, map, option_map, string_bytes, true};
+ghost use Rattle.std.specs.Prelude.{◌≡◌, ◌≤◌, map, option_map, string_bytes};
 ghost use Rattle.norm_settings.specs.Line.{after_front as behind};
-ghost use Rattle.norm_settings.specs.Options.{is_name as is_name_of, number_within as number_that_is_within};
-ghost use Rattle.rule_book.specs.Rules.{rule_named as rule_of_name};
+ghost use Rattle.norm_settings.specs.Options.{is_name as is_name_of};
 ghost use Rattle.run_view.specs.Words as spec;
 ghost use Rattle.run_view.specs.WordsMet.{plain_word};
 
-use norm_settings::number_within;
-use rule_book::{Rule, Verdict};
+use crate::chosen::has_choice;
+use crate::values::{Names, era_named, host_named, listed, table_named};
+use wire_base::Prefix;
+
+/// What is printed.
+#[derive(Clone, Copy, Debug, PartialEq, Eq)]
+pub enum Print {
+    /// A summary and eras, or the records that are chosen, as text.
+    Text,
+    /// Records, a summary and eras, as JSON.
+    Json,
+    /// A table of records.
+    Records,
+    /// A table of eras.
+    Eras,
+}
+
+/// An era that is asked for.
+#[derive(Clone, Copy, Debug, PartialEq, Eq)]
+pub struct EraAsked {
+    /// It is one of the second engine.
+    pub second: bool,
+    pub number: u32,
+}
 
 /// What the words ask for.
 #[derive(Clone, Copy, Debug, PartialEq, Eq)]
 pub struct Asked {
-    /// Records and eras are printed as JSON.
-    pub json: bool,
-    /// Records are printed whose entry names this rule.
-    pub rule: Option<Rule>,
-    /// Records are printed that belong to this era, began it or ended it.
-    pub era: Option<u32>,
-    /// Records are printed that have this verdict.
-    pub only: Option<Verdict>,
+    pub print: Print,
+    /// Records are printed of which a line names one of these rules.
+    pub rules: Option<Names>,
+    /// Records are printed of which a line belongs to this era, began it or ended it.
+    pub era: Option<EraAsked>,
+    /// Records are printed of which a line has one of these verdicts.
+    pub verdicts: Option<Names>,
+    /// Records are printed that have one of these sides.
+    pub sides: Option<Names>,
+    /// Records are printed whose source or destination lies in this prefix.
+    pub host: Option<Prefix>,
 }
 
-/// A condition on the records that are printed.
+/// An option with a value.
 #[derive(Clone, Copy)]
 pub enum Choice {
+    ByTable,
     ByRule,
     ByEra,
     ByVerdict,
+    BySide,
+    ByHost,
 }
 
 /// A word before the names.
@@ -35,10 +62,52 @@ pub enum Choice {
 pub enum Met<'a> {
     Json,
     Joined(Choice, &'a [u8]),
-    /// A condition whose value is the next word.
+    /// An option whose value is the next word.
     Parted(Choice),
     Name,
     Unknown,
+}
+
+impl Choice {
+    // Returns all options with a value.
+    fn all() -> [Choice; 6]
+        ensures { result ≡ spec.all_choices }
+    {
+        [
+            Choice::ByTable,
+            Choice::ByRule,
+            Choice::ByEra,
+            Choice::ByVerdict,
+            Choice::BySide,
+            Choice::ByHost,
+        ]
+    }
+
+    // Returns the name of the option.
+    fn name(self) -> &'static str
+        ensures { result.now ≡ spec.name_of self }
+    {
+        match self {
+            Choice::ByTable => "--table",
+            Choice::ByRule => "--rule",
+            Choice::ByEra => "--era",
+            Choice::ByVerdict => "--only",
+            Choice::BySide => "--side",
+            Choice::ByHost => "--host",
+        }
+    }
+}
+
+/// Returns whether JSON is asked for, also by words that are refused.
+pub(crate) fn asks_json(words: &[String]) -> bool
+    ensures { result ≡ spec.asks_json (map string_bytes words.now) }
+{
+    for word in words {
+        if is_json(word.as_bytes()) {
+            return true;
+        }
+    }
+    false
 }
 
 /// Returns what the words ask for: options, each at most once, and then the names of three files.
@@ -46,10 +115,12 @@ pub(crate) fn asked_in(words: &[String]) -> Option<Asked>
     ensures { result ≡ spec.asked_in (map string_bytes words.now) }
 {
     let mut asked = Asked {
-        json: false,
-        rule: None,
+        print: Print::Text,
+        rules: None,
         era: None,
-        only: None,
+        verdicts: None,
+        sides: None,
+        host: None,
     };
     let mut waiting = None;
     for (place, word) in words.iter().enumerate() {
@@ -59,7 +130,7 @@ pub(crate) fn asked_in(words: &[String]) -> Option<Asked>
         };
         waiting = None;
         match met {
-            Met::Json => asked = with_json(asked)?,
+            Met::Json => asked = with_print(asked, Some(Print::Json))?,
             Met::Joined(choice, value) => asked = with_choice(choice, asked, value)?,
             Met::Parted(choice) => waiting = Some(choice),
             Met::Name => return with_names(asked, &words[place..]),
@@ -79,7 +150,8 @@ fn with_names(asked: Asked, words: &[String]) -> Option<Asked>
     let first = is_name(input.as_bytes());
     let second = is_name(output.as_bytes());
     let third = is_name(report.as_bytes());
-    if first && second && third {
+    let together = go_together(asked);
+    if first && second && third && together {
         Some(asked)
     } else {
         None
@@ -96,142 +168,140 @@ fn is_name(word: &[u8]) -> bool
     }
 }
 
-// Adds that JSON is asked for, unless it was before.
-fn with_json(asked: Asked) -> Option<Asked>
-    ensures { result ≡ spec.with_json asked }
+// Returns whether no condition is given for a table of eras.
+fn go_together(asked: Asked) -> bool
+    ensures { result ≡ spec.go_together asked }
 {
-    if asked.json {
-        return None;
+    let choice = has_choice(&asked);
+    match asked.print {
+        Print::Text | Print::Json | Print::Records => true,
+        Print::Eras => !choice,
     }
-    Some(Asked {
-        json: true,
-        ..asked
-    })
 }
 
-// Adds a condition with this value, unless it was given before or the value is none.
+// Adds what is printed, unless JSON or a table was asked for before, or none is given.
+fn with_print(asked: Asked, print: Option<Print>) -> Option<Asked>
+    ensures { result ≡ spec.with_print asked print }
+{
+    let print = print?;
+    match asked.print {
+        Print::Text => Some(Asked { print, ..asked }),
+        Print::Json | Print::Records | Print::Eras => None,
+    }
+}
+
+// Adds an option with this value, unless it was given before or the value is none.
 fn with_choice(choice: Choice, asked: Asked, value: &[u8]) -> Option<Asked>
     ensures { result ≡ spec.with_choice choice asked value.now }
 {
     match choice {
-        Choice::ByRule => with_rule(asked, rule_named(value)),
-        Choice::ByEra => with_era(asked, era_of(value)),
-        Choice::ByVerdict => with_only(asked, verdict_named(value)),
+        Choice::ByTable => with_print(asked, table_named(value)),
+        Choice::ByRule => with_rules(asked, listed(choice, value)),
+        Choice::ByEra => with_era(asked, era_named(value)),
+        Choice::ByVerdict => with_verdicts(asked, listed(choice, value)),
+        Choice::BySide => with_sides(asked, listed(choice, value)),
+        Choice::ByHost => with_host(asked, host_named(value)),
     }
 }
 
-fn with_rule(asked: Asked, rule: Option<Rule>) -> Option<Asked>
-    ensures { result ≡ spec.with_rule asked rule }
+fn with_rules(asked: Asked, names: Option<Names>) -> Option<Asked>
+    ensures { result ≡ spec.with_rules asked names }
 {
-    let rule = rule?;
-    if asked.rule.is_some() {
+    if names.is_none() || asked.rules.is_some() {
         return None;
     }
     Some(Asked {
-        rule: Some(rule),
+        rules: names,
         ..asked
     })
 }
 
-fn with_era(asked: Asked, era: Option<u32>) -> Option<Asked>
+fn with_era(asked: Asked, era: Option<EraAsked>) -> Option<Asked>
     ensures { result ≡ spec.with_era asked era }
 {
-    let era = era?;
-    if asked.era.is_some() {
+    if era.is_none() || asked.era.is_some() {
+        return None;
+    }
+    Some(Asked { era, ..asked })
+}
+
+fn with_verdicts(asked: Asked, names: Option<Names>) -> Option<Asked>
+    ensures { result ≡ spec.with_verdicts asked names }
+{
+    if names.is_none() || asked.verdicts.is_some() {
         return None;
     }
     Some(Asked {
-        era: Some(era),
+        verdicts: names,
         ..asked
     })
 }
 
-fn with_only(asked: Asked, only: Option<Verdict>) -> Option<Asked>
-    ensures { result ≡ spec.with_only asked only }
+fn with_sides(asked: Asked, names: Option<Names>) -> Option<Asked>
+    ensures { result ≡ spec.with_sides asked names }
 {
-    let only = only?;
-    if asked.only.is_some() {
+    if names.is_none() || asked.sides.is_some() {
         return None;
     }
     Some(Asked {
-        only: Some(only),
+        sides: names,
         ..asked
     })
 }
 
-// Returns the rule of this name.
-fn rule_named(name: &[u8]) -> Option<Rule>
-    ensures { result ≡ rule_of_name name.now }
+fn with_host(asked: Asked, host: Option<Prefix>) -> Option<Asked>
+    ensures { result ≡ spec.with_host asked host }
 {
-    Rule::of_name(name)
-}
-
-// Returns the number of an era, which has 32 bits and is not 0.
-fn era_of(value: &[u8]) -> Option<u32>
-    ensures { result ≡ number_that_is_within 1 4294967295 value.now }
-{
-    let number = number_within(value, 1, 4_294_967_295)?;
-    Some(number as u32)
-}
-
-// Returns the verdict of this name.
-fn verdict_named(name: &[u8]) -> Option<Verdict>
-    ensures { result ≡ spec.verdict_named name.now }
-{
-    if name == b"drop".as_slice() {
-        Some(Verdict::Drop)
-    } else if name == b"fix".as_slice() {
-        Some(Verdict::Fix)
-    } else if name == b"hold".as_slice() {
-        Some(Verdict::Hold)
-    } else if name == b"pass".as_slice() {
-        Some(Verdict::Pass)
-    } else {
-        None
+    if host.is_none() || asked.host.is_some() {
+        return None;
     }
+    Some(Asked { host, ..asked })
+}
+
+fn is_json(word: &[u8]) -> bool
+    ensures { result ≡ spec.is_json word.now }
+{
+    word == b"--json".as_slice()
 }
 
 // Returns what a word before the names is.
 fn word_met(word: &[u8]) -> Met<'_>
     ensures { plain_word result ≡ spec.word_of word.entry.now }
 {
-    if word == b"--json".as_slice() {
-        Met::Json
-    } else if word == b"--rule".as_slice() {
-        Met::Parted(Choice::ByRule)
-    } else if word == b"--era".as_slice() {
-        Met::Parted(Choice::ByEra)
-    } else if word == b"--only".as_slice() {
-        Met::Parted(Choice::ByVerdict)
-    } else if matches!(word, [b'-', ..]) {
-        joined(
-            after_front(b"--rule=", word),
-            after_front(b"--era=", word),
-            after_front(b"--only=", word),
-        )
-    } else {
-        Met::Name
+    if !matches!(word, [b'-', ..]) {
+        return Met::Name;
     }
+    if is_json(word) {
+        return Met::Json;
+    }
+    option_met(word)
 }
 
-// Returns the option of which one of these is the value.
-fn joined<'a>(rule: Option<&'a [u8]>, era: Option<&'a [u8]>, only: Option<&'a [u8]>) -> Met<'a>
-    ensures { plain_word result ≡ spec.joined_of (option_map (λ v. v.now) rule.entry) (option_map (λ v. v.now) era.entry) (option_map (λ v. v.now) only.entry) }
+// Returns the use of an option with a value that a word is.
+fn option_met(word: &[u8]) -> Met<'_>
+    ensures { plain_word result ≡ spec.word_in spec.all_choices word.entry.now }
 {
-    if let Some(value) = rule {
-        return Met::Joined(Choice::ByRule, value);
+    for choice in Choice::all() {
+        if let Some(met) = met_as(choice, word) {
+            return met;
+        }
     }
-    if let Some(value) = era {
-        return Met::Joined(Choice::ByEra, value);
-    }
-    match only {
-        Some(value) => Met::Joined(Choice::ByVerdict, value),
-        None => Met::Unknown,
+    Met::Unknown
+}
+
+// Returns the use of this option that a word is: its name, or its name, `=` and a value.
+fn met_as(choice: Choice, word: &[u8]) -> Option<Met<'_>>
+    ensures { option_map plain_word result ≡ spec.word_by choice (behind (spec.name_of choice) word.entry.now) }
+{
+    match after_front(choice.name().as_bytes(), word)? {
+        [] => Some(Met::Parted(choice)),
+        [b'=', value @ ..] => Some(Met::Joined(choice, value)),
+        _ => None,
     }
 }
 
-// Returns the text behind this front, or None if it does not begin with it.
-fn after_front<'a>(front: &[u8], text: &'a [u8]) -> Option<&'a [u8]>
+/// Returns the text behind this front, or None if it does not begin with it.
+pub(crate) fn after_front<'a>(front: &[u8], text: &'a [u8]) -> Option<&'a [u8]>
     ensures { option_map (λ rest. rest.now) result ≡ behind front.now text.entry.now }
 {
     text.strip_prefix(front)

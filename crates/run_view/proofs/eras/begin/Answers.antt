@@ -1,10 +1,10 @@
 use Rattle.std.proofs.Common.{ap, ◌∙◌}
-use Rattle.run_view.specs.Eras.{changed, with_flow}
+use Rattle.run_view.specs.Eras.{changed, with_begin}
 use Rattle.run_view.specs.Rows.{table_of}
 use Rattle.run_view.proofs.Tables.{changed_named}
 use Rattle.run_view.proofs.eras.begin.Goals as goal
 
 pub returns : goal.returns
 returns c =
-    rw c.in-Some.is (c.begin_named.ensures ∙ ap (changed c.in-Some.era (with_flow c.args.flow)) c.in_ok-name.ensures.named
-    ∙ changed_named (table_of c.args.eras.now) c.in-Some.era (with_flow c.args.flow))
+    rw c.in-Some.is (c.begin_named.ensures ∙ ap (changed c.in-Some.era (with_begin c.args.outside c.args.flow)) c.in_ok-name.ensures.named
+    ∙ changed_named (table_of c.args.eras.now) c.in-Some.era (with_begin c.args.outside c.args.flow))

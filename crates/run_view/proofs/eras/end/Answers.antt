@@ -6,5 +6,5 @@ use Rattle.run_view.proofs.eras.end.Goals as goal
 
 pub returns : goal.returns
 returns c =
-    c.end_named.ensures ∙ ap (changed c.args.ended.era (with_end c.args.ended.reason)) c.in_ok-name.ensures.named
-    ∙ changed_named (table_of c.args.eras.now) c.args.ended.era (with_end c.args.ended.reason)
+    c.end_named.ensures ∙ ap (changed c.args.ended.era (with_end c.args.ended)) c.in_ok-name.ensures.named
+    ∙ changed_named (table_of c.args.eras.now) c.args.ended.era (with_end c.args.ended)

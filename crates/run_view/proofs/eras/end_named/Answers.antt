@@ -9,7 +9,7 @@ use Rattle.run_view.proofs.eras.end_named.Goals as goal
 
 pub returns : goal.returns
 returns c =
-    let row : EraRow = record c.in-Some.row.now { end = Some c.args.ended.reason } in
+    let row : EraRow = record c.in-Some.row.now { ended = Some c.args.ended } in
     let was : lookup (nat_eq c.args.ended.era) c.args.eras.now.entries ≡ Some c.in-Some.row.now = grind (arith, common_steps) in
     let is : (c.get_mut.follows.lender row).entries ≡ set_value (nat_eq c.args.ended.era) c.args.eras.now.entries row = grind (arith, common_steps) in
-    ap rows_of is ∙ changed_by_set c.args.eras.now.entries c.args.ended.era c.in-Some.row.now row (with_end c.args.ended.reason) was refl
+    ap rows_of is ∙ changed_by_set c.args.eras.now.entries c.args.ended.era c.in-Some.row.now row (with_end c.args.ended) was refl

@@ -9,7 +9,7 @@ use Rattle.run_view.proofs.item.gather.Given as goal
 abbrev pub invariant-loop-number : goal.invariant-loop-number
 invariant-loop-number g l = record {
   ready : MayRead l.frames;
-  wanted : l.gathered.wanted ≡ l.fn.gathered.wanted;
+  wants : l.gathered.wants ≡ l.fn.gathered.wants;
   count : l.frames.count ≡ l.fn.frames.count + l.number;
   later : g.O.Source.fault_count l.fn.output ≤ g.O.Source.fault_count l.output;
   kept : g.O.Source.fault_count l.output ≡ g.O.Source.fault_count l.fn.output;

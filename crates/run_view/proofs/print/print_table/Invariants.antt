@@ -6,7 +6,8 @@ use Rattle.run_view.proofs.print.print_table.Given as goal
 
 abbrev pub invariant-loop-place : goal.invariant-loop-place
 invariant-loop-place g l = record {
-  printed : LeftToPrint (g.K.Sink.held l.fn.out) (g.K.Sink.held l.out) (table_text l.json l.second (rows_of (drop l.place l.eras.entries))) (table_text l.json l.second (rows_of l.eras.entries));
+  printed : LeftToPrint (g.K.Sink.held l.fn.out) (g.K.Sink.held l.out) (table_text l.format l.second (rows_of (drop l.place l.eras.entries)))
+      (table_text l.format l.second (rows_of l.eras.entries));
   later : g.K.Sink.fault_count l.fn.out ≤ g.K.Sink.fault_count l.out;
   kept : g.K.Sink.fault_count l.out ≡ g.K.Sink.fault_count l.fn.out;
 }

@@ -5,5 +5,5 @@ use Rattle.run_view.proofs.tally.count_rule.Given as goal
 abbrev pub invariant-loop-place : goal.invariant-loop-place
 invariant-loop-place l = record {
   same : l.counts.items ≡ l.initial.counts.items;
-  counted_so : counted l.rule l.counts.items ≡ take l.place l.counts.items ++ counted l.rule (drop l.place l.counts.items);
+  counted_so : counted l.side l.rule l.counts.items ≡ take l.place l.counts.items ++ counted l.side l.rule (drop l.place l.counts.items);
 }

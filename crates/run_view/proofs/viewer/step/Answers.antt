@@ -5,10 +5,9 @@ use Rattle.run_view.specs.Ahead.{line_in}
 use Rattle.run_view.specs.Forms.{version_of}
 use Rattle.run_view.specs.Items.{frames_of, packets_of}
 use Rattle.run_view.specs.SoFar.{turn_in}
-use Rattle.run_view.specs.Why.{taking_of}
 use Rattle.run_view.proofs.Amiss.{amiss_so, few_turn, none_told, other_number, part_told, told_so}
-use Rattle.run_view.proofs.Going.{going_ahead, going_at, going_on, next_line_of}
-use Rattle.run_view.proofs.Whys.{next_amiss, take_stops}
+use Rattle.run_view.proofs.Going.{going_ahead, going_at, going_on, next_line_of, taken_unprinted}
+use Rattle.run_view.proofs.Whys.{due_stops, next_amiss, take_stops}
 use Rattle.run_view.proofs.viewer.step.Goals as goal
 
 pub returns-then-from-turn-clause-stops : goal.returns-then-from-turn-clause-stops
@@ -28,20 +27,34 @@ returns-in_err-take-in-Some-clause-stops g c =
     let next = told_so c.version_of.result (version_of viewer.form) c.turn-turn.result (turn_in viewer) c.line-text.result.now (line_in c.next.new.self) _ _ (plain c.in-Some.entry) c.version_of.ensures c.turn-turn.ensures c.line-text.ensures
     c.in-Ok.ensures.line.taken (part_told _ _ _ _ (plain c.in-Some.entry) c.entry_part.ensures (rw c.in-Some.is at c.read_entry-told.ensures)) (search rules) in
     take_stops viewer head before _ told _
-    (taking_of (g.I.Source.fault_count c.args.input.now) (g.I.Source.fault_count c.take.new.input) (g.O.Source.fault_count c.args.output.now) (g.O.Source.fault_count c.take.new.output)
-    (g.K.Sink.fault_count c.args.out.now) (g.K.Sink.fault_count c.take.new.out) (g.K.Sink.held c.args.out.now) (g.K.Sink.held c.take.new.out))
-    _ _ _ (plain c.in-Some.entry) (λ rose. inl rose) (λ rose. inr (inl rose)) (λ rose. rose) refl going
+    (g.I.Source.fault_count c.args.input.now) (g.I.Source.fault_count c.take.new.input) (g.O.Source.fault_count c.args.output.now) (g.O.Source.fault_count c.take.new.output)
+    _ _ _ (plain c.in-Some.entry) (λ rose. inl rose) (λ rose. inr (inl rose)) going
     (next_line_of viewer head before _ going.items _ _ (plain c.in-Some.entry) going.so_far next)
     (c.in_err-take-in-Some.ensures.stops before.read before.written head (packets_of going.items) (frames_of going.items) going.so_far.input going.so_far.output))
 
-pub returns-in_ok-take-in-Some-clause-going : goal.returns-in_ok-take-in-Some-clause-going
-returns-in_ok-take-in-Some-clause-going g c head before told going =
+pub returns-in_err-print_due-in-Some-clause-stops : goal.returns-in_err-print_due-in-Some-clause-stops
+returns-in_err-print_due-in-Some-clause-stops g c =
+    let p = err_from_is_err_and c.from_residual-in_err-print_due-in-Some.result c.from_residual-in_err-print_due-in-Some.ensures.1 in rw (p.1, p.2)
+    (λ head before told going.
+    let viewer = c.args.viewer.now in
+    let next = told_so c.version_of.result (version_of viewer.form) c.turn-turn.result (turn_in viewer) c.line-text.result.now (line_in c.next.new.self) _ _ (plain c.in-Some.entry) c.version_of.ensures c.turn-turn.ensures c.line-text.ensures
+    c.in-Ok.ensures.line.taken (part_told _ _ _ _ (plain c.in-Some.entry) c.entry_part.ensures (rw c.in-Some.is at c.read_entry-told.ensures)) (search rules) in
+    let old = record viewer { lines = c.next.new.self } in
+    let went = c.in_ok-take-in-Some.ensures.went in
+    let ahead = going_ahead viewer c.next.new.self head before _ told _ going in
+    due_stops old c.take.new.viewer head before _ told _ _ _ _ _ _ _ _ went.asked went.form went.head (λ rose. rose) ahead
+    (taken_unprinted old c.take.new.viewer head before _ (g.I.Source.left c.take.new.input) (g.O.Source.left c.take.new.output) told _ _ (plain c.in-Some.entry)
+    (λ before printed items now fits number. c.in_ok-take-in-Some.ensures.taken head before printed items now fits number) next ahead)
+    c.in_err-print_due-in-Some.ensures.stops)
+
+pub returns-in_ok-print_due-in-Some-clause-going : goal.returns-in_ok-print_due-in-Some-clause-going
+returns-in_ok-print_due-in-Some-clause-going g c head before told going =
     let viewer = c.args.viewer.now in
     let next = told_so c.version_of.result (version_of viewer.form) c.turn-turn.result (turn_in viewer) c.line-text.result.now (line_in c.next.new.self) _ _ (plain c.in-Some.entry) c.version_of.ensures c.turn-turn.ensures c.line-text.ensures
     c.in-Ok.ensures.line.taken (part_told _ _ _ _ (plain c.in-Some.entry) c.entry_part.ensures (rw c.in-Some.is at c.read_entry-told.ensures)) (search rules) in
     going_at _ head before _ told _ _ _ (sym c.in_ok-take-in-Some.ensures.went.lines)
-    (going_on (record viewer { lines = c.next.new.self }) c.take.new.viewer head before _ _ told _ _ (plain c.in-Some.entry)
-    (λ items now fits number. c.in_ok-take-in-Some.ensures.taken head before items now fits number) next (going_ahead viewer c.next.new.self head before _ told _ going))
+    (going_on (record viewer { lines = c.next.new.self }) c.take.new.viewer head before _ (g.I.Source.left c.take.new.input) (g.O.Source.left c.take.new.output) _ told _ _ (plain c.in-Some.entry)
+    (λ before printed items now fits number. c.in_ok-take-in-Some.ensures.taken head before printed items now fits number) c.in_ok-print_due-in-Some.ensures.prints next (going_ahead viewer c.next.new.self head before _ told _ going))
 
 pub returns-in-None-2-clause-stops : goal.returns-in-None-2-clause-stops
 returns-in-None-2-clause-stops g c head before told going =

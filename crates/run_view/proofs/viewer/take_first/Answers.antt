@@ -1,10 +1,8 @@
-use Rattle.std.proofs.Common.{◌+◌, refl, inl, ◌∙◌}
-use Rattle.std.proofs.KnownBytes.{Appends-nil}
+use Rattle.std.proofs.Common.{◌+◌, refl, ◌∙◌}
 use Rattle.std.proofs.lemmas.Result.{err_from_is_err_and}
 use Rattle.pcap_file.specs.Reads.{shown}
 use Rattle.run_view.specs.Items.{frames_of, packets_of}
 use Rattle.run_view.proofs.Going.{taken_first}
-use Rattle.run_view.proofs.Ons.{on_ok}
 use Rattle.run_view.proofs.Whys.{item_by_input, item_unread}
 use Rattle.run_view.proofs.viewer.take_first.Goals as goal
 
@@ -12,39 +10,27 @@ pub returns-in_err-record-clause-stops : goal.returns-in_err-record-clause-stops
 returns-in_err-record-clause-stops g c =
     let p = err_from_is_err_and c.from_residual.result c.from_residual.ensures.1 in rw (p.1, p.2)
     (λ read written head records frames input_at output_at.
-    let files = c.args.viewer.now.files in
-    inl
-    (record {
-      why = item_by_input files read written head records frames _ _ _ _ _ _ (c.in_err-record.ensures.stops files.head read records input_at);
-      text = Appends-nil _;
-    }))
+    let files = c.args.viewer.now.files in item_by_input files read written head records frames _ _ _ _ _ _ (c.in_err-record.ensures.stops files.head read records input_at))
 
 pub returns-in_default-clause-stops : goal.returns-in_default-clause-stops
 returns-in_default-clause-stops g c read written head records frames input_at output_at =
-    inl (record { why = record { whole = rw c.in_default.is at (c.in_ok-record.ensures.reads c.args.viewer.now.files.head read records input_at); place = refl }; text = Appends-nil _ })
+    record { whole = rw c.in_default.is at (c.in_ok-record.ensures.reads c.args.viewer.now.files.head read records input_at); place = refl }
 
 pub returns-in_err-gather-clause-stops : goal.returns-in_err-gather-clause-stops
 returns-in_err-gather-clause-stops g c =
     let p = err_from_is_err_and c.from_residual-in_err-gather.result c.from_residual-in_err-gather.ensures.1 in rw (p.1, p.2)
     (λ read written head records frames input_at output_at.
     let files = c.args.viewer.now.files in
-    inl
-    (record {
-      why =
-          item_unread files c.next_record.new.input read written _ head records frames _ _ _ _ _ _ (shown c.in-Some.record) _ c.own_frames-packets.ensures
-          (rw c.in-Some.is at (c.in_ok-record.ensures.reads files.head read records input_at)) (c.in_err-gather.ensures.stops written head frames output_at);
-      text = Appends-nil _;
-    }))
+    item_unread files c.next_record.new.input read written _ head records frames _ _ _ _ _ _ (shown c.in-Some.record) _ c.own_frames-packets.ensures
+    (rw c.in-Some.is at (c.in_ok-record.ensures.reads files.head read records input_at)) (c.in_err-gather.ensures.stops written head frames output_at))
 
 pub returns-clause-taken : goal.returns-clause-taken
-returns-clause-taken g c =
-    on_ok c.print_chosen.result c.print_chosen.ensures.prints
-    (λ prints head before items so_far fits number.
+returns-clause-taken g c head before printed items so_far fits number =
     let viewer = c.args.viewer.now in
     taken_first viewer (record viewer.files { input = c.next_record.new.input; buffer = _; count = viewer.files.count + 1; frames = c.gather.new.frames }) c.hold.new.held c.own_frames-packets.result c.answers-viewer.result
-    c.kinds_by.result c.note.new.self head before _ _ items c.args.entry.now (shown c.in-Some.record) c.time_of-time.result c.gather.new.gathered c.requires.none_owed refl
-    c.in_ok-gather.ensures.count c.own_frames-packets.ensures c.kinds_by.ensures c.answers-viewer.ensures c.time_of-time.ensures
-    (c.in_ok-gather.ensures.wanted ∙ c.nothing-gathered.ensures.wanted ∙ c.is_of_era.ensures)
+    c.kinds_by.result c.note.new.self c.note_line.new.printing c.is_both.result head before _ _ _ items c.args.entry.now (shown c.in-Some.record) c.time_of-time.result c.gather.new.gathered c.requires.none_owed refl
+    c.in_ok-gather.ensures.count c.own_frames-packets.ensures c.kinds_by.ensures c.answers-viewer.ensures c.is_both.ensures c.time_of-time.ensures
+    (c.in_ok-gather.ensures.wants ∙ c.nothing-gathered.ensures.wants ∙ c.wants_of.ensures)
     (record {
       sides = c.in_ok-note.ensures.sides;
       second_sides = c.in_ok-note.ensures.second_sides;
@@ -53,4 +39,4 @@ returns-clause-taken g c =
       second_eras = c.in_ok-note.ensures.second_eras;
     })
     c.in_ok-hold.ensures so_far fits number (rw c.in-Some.is at (c.in_ok-record.ensures.reads viewer.files.head before.read (packets_of items) so_far.input))
-    (c.in_ok-gather.ensures.read before.written head (frames_of items) so_far.output) prints)
+    (c.in_ok-gather.ensures.read before.written head (frames_of items) so_far.output) c.in_ok-note_line.ensures

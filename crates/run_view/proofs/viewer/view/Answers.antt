@@ -6,19 +6,19 @@ use Rattle.run_view.proofs.Whys.{rose_within}
 use Rattle.run_view.proofs.viewer.view.Goals as goal
 
 pub returns-in-Err-clause-viewed : goal.returns-in-Err-clause-viewed
-returns-in-Err-clause-viewed g c is = absurd (told_not_none c.in-Err.stop _ _ _ _ _ c.tell-in-Err.ensures.told is)
+returns-in-Err-clause-viewed g c is = absurd (told_not_none _ c.in-Err.stop _ _ _ _ _ c.tell-in-Err.ensures.told is)
 
 pub returns-in-Err-clause-stopped : goal.returns-in-Err-clause-stopped
 returns-in-Err-clause-stopped g c =
     inr
-    (stopped_by _ _ _ _ _ c.in-Err.stop _ (λ rose. rose_within _ _ _ _ c.in-Err.ensures.out_later (search rules) rose)
+    (stopped_by _ _ _ _ _ _ c.in-Err.stop _ c.asks_json-json.ensures (λ rose. rose_within _ _ _ _ c.in-Err.ensures.out_later (search rules) rose)
     (cause_of _ _ _ _ _ _ _ (sym c.asked_in.ensures ∙ c.in-Some.is) (λ rose. rose_within _ _ _ _ (omega arith) c.tell-in-Err.ensures.later rose) c.in-Err.ensures.stops) c.tell-in-Err.ensures.told)
 
 pub returns-in_default-clause-stopped : goal.returns-in_default-clause-stopped
 returns-in_default-clause-stopped g c =
     inr
-    (stopped_by _ _ _ _ _ stops.Words _ (λ rose. rose)
-    (inr (inl (record { none = sym c.asked_in.ensures ∙ c.in_default.is; stop_is = inl refl; text = Appends-nil _ }))) c.tell.ensures.told)
+    (stopped_by _ _ _ _ _ _ stops.Words _ c.asks_json-json.ensures (λ rose. rose)
+    (inl (record { none = sym c.asked_in.ensures ∙ c.in_default.is; stop_is = inl refl; text = Appends-nil _ })) c.tell.ensures.told)
 
 pub returns-in_default-clause-refused : goal.returns-in_default-clause-refused
-returns-in_default-clause-refused g c none = refused_told _ _ _ _ _ c.tell.ensures.told
+returns-in_default-clause-refused g c none = refused_told _ _ _ _ _ _ c.tell.ensures.told

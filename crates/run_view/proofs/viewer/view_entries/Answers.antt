@@ -39,7 +39,7 @@ returns-clause-stops g c =
     let going = ended.going in
     behind_at (same.asked ∙ c.entries.invariant.asked) (same.form ∙ c.entries.invariant.form) (same.head ∙ c.entries.invariant.head)
     (close_stops c.step.new.viewer head before _ _ _ _ _ _ _ _ _ stop (λ rose. rose_within _ _ _ _ (omega arith) (omega arith) rose) going
-    (closing_now c.step.new.viewer (record c.step.new.viewer { files = c.check_ends.new.files; lines = c.check_ends.new.lines }) going.items (record { asked = refl; form = refl; tally = refl; count = c.in_ok-check_ends.ensures.same.count; frame_count = c.in_ok-check_ends.ensures.same.frame_count }) going.so_far.counts going.so_far.count going.so_far.frame_count)
+    (closing_now c.step.new.viewer (record c.step.new.viewer { files = c.check_ends.new.files; lines = c.check_ends.new.lines }) going.items (record { asked = refl; form = refl; tally = refl; printing = refl; count = c.in_ok-check_ends.ensures.same.count; frame_count = c.in_ok-check_ends.ensures.same.frame_count }) going.so_far.counts going.so_far.count going.so_far.frame_count going.so_far.printing.count)
     (all_over c.step.new.viewer head before _ _ _ _ ended.told c.in_ok-check_ends.ensures.report going
     (c.in_ok-check_ends.ensures.ends before.read before.written head (packets_of going.items) (frames_of going.items) going.so_far.input going.so_far.output))
     why))
@@ -51,6 +51,6 @@ returns-clause-viewed g c =
     let same = c.in_ok-step.ensures.same in
     let ended = rw c.if-branch.false at (c.in_ok-step.ensures.going head before _ (c.entries.invariant.going head before so_far)) in
     whole_now c.step.new.viewer (record c.step.new.viewer { files = c.check_ends.new.files; lines = c.check_ends.new.lines }) _ _ _ head before _ _ _ _ _ (same.asked ∙ c.entries.invariant.asked) (same.form ∙ c.entries.invariant.form) (same.head ∙ c.entries.invariant.head)
-    (record { asked = refl; form = refl; tally = refl; count = c.in_ok-check_ends.ensures.same.count; frame_count = c.in_ok-check_ends.ensures.same.frame_count })
+    (record { asked = refl; form = refl; tally = refl; printing = refl; count = c.in_ok-check_ends.ensures.same.count; frame_count = c.in_ok-check_ends.ensures.same.frame_count })
     ended.told c.in_ok-check_ends.ensures.report
     (λ items now. c.in_ok-check_ends.ensures.ends before.read before.written head (packets_of items) (frames_of items) now.input now.output) prints ended.going)

@@ -1,6 +1,6 @@
 use Rattle.std.proofs.Common.{rules}
 use Rattle.std.proofs.lemmas.Slice.Eq.{strip_prefix_is}
-use Rattle.norm_settings.proofs.Fronts.{behind_front}
+use Rattle.norm_settings.proofs.Grammar.{behind_front}
 use Rattle.run_view.proofs.words.after_front.Goals as goal
 
 pub returns : goal.returns

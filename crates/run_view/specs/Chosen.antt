@@ -1,0 +1,129 @@
+-- Which records are printed (this project's profile): those that meet each condition that is given. A condition on lines is met by a record of which some line
+-- meets it. Lists of items have the newest at the head.
+use Rattle.std.specs.Prelude.{ℕ, ◌==◌, ◌&&◌, ◌||◌, not, get_or, Bool, true, false, List, [], ◌∷◌, Option, Some, None, is_some, if◌then◌else◌}
+use Rattle.std.specs.List.{list_any}
+use Rattle.wire_base.specs.declared.address.Side.{Side}
+use Rattle.wire_base.specs.declared.address.Side.TheVariants.{Inward, Outward}
+use Rattle.wire_base.specs.declared.prefix.Prefix.{Prefix}
+use Rattle.wire_base.specs.Prefixes.{holds}
+use Rattle.pcap_file.specs.declared.head.Head.{Head}
+use Rattle.rule_book.specs.Entries.{PlainEntry}
+use Rattle.rule_book.specs.Rules.{rule_number}
+use Rattle.rule_book.specs.declared.entry.Ended.{Ended}
+use Rattle.rule_book.specs.declared.entry.Verdict.{Verdict}
+use Rattle.rule_book.specs.declared.entry.Verdict.TheVariants.{Pass, Fix, Hold, Drop}
+use Rattle.rule_book.specs.declared.rule.Rule.{Rule}
+use Rattle.frame_view.specs.declared.flow.Flow.{Flow}
+use Rattle.run_view.specs.declared.chosen.Meets.{Meets}
+use Rattle.run_view.specs.declared.words.Asked.{Asked}
+use Rattle.run_view.specs.declared.words.EraAsked.{EraAsked}
+use Rattle.run_view.specs.declared.words.Print.TheVariants as prints
+use Rattle.run_view.specs.Items.{Item, flow_at, is_second}
+
+-- the place of a verdict, and of a side, in a list of such names; that of a rule is its number
+abbrev pub verdict_place : Verdict → ℕ
+verdict_place Pass = 0
+verdict_place Fix = 1
+verdict_place Hold = 2
+verdict_place Drop = 3
+
+abbrev pub side_place : Option Side → ℕ
+side_place (Some Inward) = 0
+side_place (Some Outward) = 1
+side_place None = 2
+
+-- the name at this place is among these, or no names are given
+abbrev pub is_listed : Option (List Bool) → (place : ℕ) → Bool
+is_listed None place = true
+is_listed (Some names) place = get_or names place false
+
+-- one of the rules is among these, or no rules are given
+abbrev pub names_one : List Bool → List Rule → Bool
+names_one names rules = list_any (λ rule. get_or names (rule_number rule) false) rules
+
+abbrev pub names_rule : Option (List Bool) → List Rule → Bool
+names_rule None rules = true
+names_rule (Some names) rules = names_one names rules
+
+-- there is a number, and it is this one
+abbrev pub is_number : Option ℕ → ℕ → Bool
+is_number None number = false
+is_number (Some own) number = own == number
+
+-- the era is among these
+abbrev pub has_ended : List Ended → (era : ℕ) → Bool
+has_ended ended era = list_any (λ (one : Ended). one.era == era) ended
+
+-- the line is one of the engine of the era, and its entry belongs to the era, began it or ended it; or no era is given
+abbrev pub names_era : Option EraAsked → (second : Bool) → PlainEntry → Bool
+names_era None second entry = true
+names_era (Some era) second entry =
+    (if second then era.second else not era.second)
+    && (is_number entry.era era.number || is_number entry.begun era.number || has_ended entry.ended era.number)
+
+-- source or destination lies in the prefix, or none is given
+abbrev pub is_of : Prefix → Option Flow → Bool
+is_of prefix None = false
+is_of prefix (Some flow) = holds prefix flow.src.0 || holds prefix flow.dst.0
+
+abbrev pub has_host : Option Prefix → Option Flow → Bool
+has_host None flow = true
+has_host (Some prefix) flow = is_of prefix flow
+
+-- Which conditions a line meets that has this entry by this engine, and a record with these headers. Those on side and hosts are conditions on the record: they
+-- are met by its line of the first engine.
+abbrev pub met_by : Asked → (second : Bool) → PlainEntry → Option Flow → Meets
+met_by asked second entry flow =
+    record {
+      rule = names_rule asked.rules entry.rules;
+      era = names_era asked.era second entry;
+      verdict = is_listed asked.verdicts (verdict_place entry.verdict);
+      side = not second && is_listed asked.sides (side_place entry.side);
+      host = not second && has_host asked.host flow;
+    }
+
+abbrev pub met_at : Asked → Head → Item → Meets
+met_at asked head item = met_by asked (is_second item) item.entry (flow_at head.link item.packet.octets)
+
+-- what one of two meets
+abbrev pub either : Meets → Meets → Meets
+either one other =
+    record {
+      rule = one.rule || other.rule;
+      era = one.era || other.era;
+      verdict = one.verdict || other.verdict;
+      side = one.side || other.side;
+      host = one.host || other.host;
+    }
+
+abbrev pub nothing_met : Meets
+nothing_met = record { rule = false; era = false; verdict = false; side = false; host = false }
+
+-- which conditions the lines of the newest record meet: a line of the first engine, and those of the second behind it
+abbrev pub met_of : Asked → Head → List Item → Meets
+met_of asked head [] = nothing_met
+met_of asked head (item ∷ older) = if is_second item then either (met_of asked head older) (met_at asked head item) else met_at asked head item
+
+-- the conditions on the record are met, and all are
+abbrev pub meets_record : Meets → Bool
+meets_record met = met.side && met.host
+
+abbrev pub meets_all : Meets → Bool
+meets_all met = ((met.rule && met.era) && met.verdict) && meets_record met
+
+-- a condition is given
+abbrev pub has_choice : Asked → Bool
+has_choice asked = is_some asked.rules || is_some asked.era || is_some asked.verdicts || is_some asked.sides || is_some asked.host
+
+-- records are printed: as text only those that are chosen, and none in a table of eras
+abbrev pub prints_records : Asked → Bool
+prints_records asked = elim asked.print [
+  | prints.Text ↦ has_choice asked
+  | prints.Json ↦ true
+  | prints.Records ↦ true
+  | prints.Eras ↦ false
+]
+
+-- the newest record is printed with these as its lines
+abbrev pub is_printed : Asked → Head → List Item → Bool
+is_printed asked head items = prints_records asked && meets_all (met_of asked head items)
