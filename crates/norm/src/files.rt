@@ -1,62 +1,67 @@
 //! The files of a run. No file is emptied that the run reads, that another run reads or writes, or that takes the report.
-ghost use Rattle.std.specs.Prelude.{◌≡◌, None};
+ghost use Rattle.std.specs.Prelude.{IsErr};
 
 use norm_settings::Names;
-use std::fs;
 use std::fs::{File, Metadata, OpenOptions, TryLockError};
 use std::os::unix::fs::{FileTypeExt, MetadataExt};
+use std::{fs, io};
 
 // Linux's name for the file behind standard output, whatever that is.
 const STANDARD_OUTPUT: &str = "/proc/self/fd/1";
 
-/// Opens the file to read and, where that succeeds, the file to write. A file that is missing is a source or a sink whose every call
-/// fails. A regular file is held by an advisory lock as long as it is open: IN shared with other readers, OUT alone.
-pub fn opened(rt: &HostRuntime, names: &Names) -> (Option<File>, Option<File>)
-    ensures { result.0 ≡ None → result.1 ≡ None }
+/// Opens the file to read and, where that succeeds, the file to write. A regular file is held by an advisory lock as long as it is
+/// open: IN shared with other readers, OUT alone.
+pub fn opened(rt: &HostRuntime, names: &Names) -> (io::Result<File>, io::Result<File>)
+    ensures { IsErr result.0 → IsErr result.1 }
 {
     // Must be first: if standard output is closed, the next file that is opened takes its number.
     let report = fs::metadata(rt, STANDARD_OUTPUT).ok();
-    let Some(input) = read(rt, names.input.as_str()) else {
-        return (None, None);
+    let input = match read(rt, names.input.as_str()) {
+        Ok(input) => input,
+        Err(error) => return (Err(error), Err(error)),
     };
     if is_regular(&input) {
         let _ = input.try_lock_shared();
     }
     let output = written(rt, names.output.as_str(), &input, &report);
-    (Some(input), output)
+    (Ok(input), output)
 }
 
 // Opens the file to read.
-fn read(rt: &HostRuntime, name: &str) -> Option<File> {
-    let input = File::open(rt, name).ok()?;
+fn read(rt: &HostRuntime, name: &str) -> io::Result<File> {
+    let input = File::open(rt, name)?;
     behind_standard(&input)
 }
 
 // Opens the file to write, and empties it once it is held alone; a device or a pipe is taken as it is.
-fn written(rt: &HostRuntime, name: &str, input: &File, report: &Option<Metadata>) -> Option<File> {
-    let output = OpenOptions::new()
-        .write(true)
-        .create(true)
-        .open(rt, name)
-        .ok()?;
+fn written(
+    rt: &HostRuntime,
+    name: &str,
+    input: &File,
+    report: &Option<Metadata>,
+) -> io::Result<File> {
+    let output = OpenOptions::new().write(true).create(true).open(rt, name)?;
     let output = behind_standard(&output)?;
-    if takes_report(&output, report) {
-        return None;
+    if takes_report(&output, report)? {
+        return Err(io::Error::other("where the report goes"));
     }
     if !is_regular(&output) {
-        return Some(output);
+        return Ok(output);
     }
-    if are_one(input, &output) || !hold(&output) {
-        return None;
+    if are_one(input, &output)? {
+        return Err(io::Error::other("the same file as IN"));
     }
-    output.set_len(0).ok()?;
-    Some(output)
+    if !hold(&output) {
+        return Err(io::Error::other("held by another run"));
+    }
+    output.set_len(0)?;
+    Ok(output)
 }
 
 // Duplicates the open file behind the numbers of the standard ones: if standard output is closed, the report must not go into a
 // file that took its number.
-fn behind_standard(file: &File) -> Option<File> {
-    file.try_clone().ok()
+fn behind_standard(file: &File) -> io::Result<File> {
+    file.try_clone()
 }
 
 // Holds the file alone from here on, and returns false where someone else holds it. Where the file system has no locks, nobody does.
@@ -65,25 +70,18 @@ fn hold(file: &File) -> bool {
 }
 
 // Whether the two are one file by two names.
-fn are_one(one: &File, other: &File) -> bool {
-    match (one.metadata(), other.metadata()) {
-        (Ok(one), Ok(other)) => is_same_node(&one, &other),
-        _ => true,
-    }
+fn are_one(one: &File, other: &File) -> io::Result<bool> {
+    Ok(is_same_node(&one.metadata()?, &other.metadata()?))
 }
 
 // Whether the file is the one that standard output writes to, where the report would overwrite the capture or be between its
 // records. A terminal and `/dev/null` are character devices, which keep nothing that could be overwritten.
-fn takes_report(file: &File, report: &Option<Metadata>) -> bool {
+fn takes_report(file: &File, report: &Option<Metadata>) -> io::Result<bool> {
     let Some(report) = report else {
-        return false;
+        return Ok(false);
     };
-    match file.metadata() {
-        Ok(metadata) => {
-            !metadata.file_type().is_char_device() && is_same_node(&metadata, report)
-        }
-        Err(_) => true,
-    }
+    let metadata = file.metadata()?;
+    Ok(!metadata.file_type().is_char_device() && is_same_node(&metadata, report))
 }
 
 fn is_same_node(one: &Metadata, other: &Metadata) -> bool {
@@ -140,8 +138,8 @@ mod tests {
         Ok(run(
             rt.alloc(),
             &words,
-            &mut FileSource::over(input),
-            &mut FileSink::over(output),
+            &mut FileSource::opened(input),
+            &mut FileSink::opened(output),
             &mut report,
         ))
     }

@@ -1,7 +1,7 @@
 //! The texts that the program prints if its only word asks for them.
 
 /// The answer to `--version`.
-pub const VERSION: &str = "norm 0.1.0\n";
+pub const VERSION: &str = "norm 0.2.0\n";
 
 /// The answer to `--help` and `-h`.
 pub const HELP: &str =
@@ -38,7 +38,8 @@ Options go before IN, each at most once, as --name=N or --name N, where N is
   --offload       default off: rewrite wrong checksums of outbound packets
   --both          default off: protect both sides: a second engine reads what the first writes
 
-With --inside a packet that the capturing machine forwards must be in IN once:
+With --inside a PREFIX does not give the side, but M_QUOTE still asks it: name the
+real hosts. A packet that the capturing machine forwards must be in IN once:
 capture with -f inbound after each -i of dumpcap, and order the records with
 reordercap.
 
@@ -70,6 +71,8 @@ Status and last line:
   6  stop capture O: OUT could not be created or written
   7  none: the report could not be written
   8  stop memory O: memory could not be allocated
+
+Unless the status is 0, one line on standard error says why.
 
 Refused words, in the order in which they are tested, each N with an example:
 

@@ -4,10 +4,17 @@
 mod texts;
 
 use edge_io::{FileSource, LineOut};
+use error_line::{Why, failed, last_line, tell};
 use run_audit::audit;
 use std::fs::File;
 use std::process::ExitCode;
 use std::{env, io};
+
+// The name at the beginning of a line on standard error.
+const PROGRAM: &str = "normaudit";
+
+// The name of standard output there.
+const STANDARD_OUTPUT: &str = "standard output";
 
 fn main(rt: HostRuntime) -> ExitCode {
     let words = match words_after_name(&rt) {
@@ -17,19 +24,9 @@ fn main(rt: HostRuntime) -> ExitCode {
         Err(_) => Vec::new(rt.alloc()),
     };
     if let Some(text) = asked_text(&words) {
-        return match rt.print(text) {
-            Ok(()) => ExitCode::SUCCESS,
-            Err(_) => ExitCode::from(7),
-        };
+        return print(&rt, text);
     }
-    let (capture, report) = opened(&rt, &words);
-    ExitCode::from(audit(
-        rt.alloc(),
-        &words,
-        &mut FileSource::over(capture),
-        &mut FileSource::over(report),
-        &mut LineOut::over(Some(rt.stdout())),
-    ))
+    audit_files(&rt, &words)
 }
 
 // The words of the command line without the program's own name.
@@ -51,20 +48,60 @@ fn asked_text(words: &[String]) -> Option<&'static str> {
     }
 }
 
-// The capture and the report that three words name. A file that cannot be opened is a source whose every call fails.
-fn opened(rt: &HostRuntime, words: &[String]) -> (Option<File>, Option<File>) {
-    let [capture, report, _] = words else {
-        return (None, None);
+// Prints a text, and returns the status.
+fn print(rt: &HostRuntime, text: &str) -> ExitCode {
+    let Err(error) = rt.print(text) else {
+        return ExitCode::SUCCESS;
     };
-    (read(rt, capture.as_str()), read(rt, report.as_str()))
+    let file = STANDARD_OUTPUT;
+    tell(rt, PROGRAM, &Why::Failed { file, error });
+    ExitCode::from(7)
 }
 
-// The file to read.
-fn read(rt: &HostRuntime, name: &str) -> Option<File> {
-    File::open(rt, name).ok()
+// Audits the files that the words name, and returns the status. A file that cannot be opened is a source whose every call fails.
+fn audit_files(rt: &HostRuntime, words: &[String]) -> ExitCode {
+    let (capture_name, report_name) = match words {
+        [capture, report, _] => (capture.as_str(), report.as_str()),
+        _ => ("", ""),
+    };
+    let mut capture = FileSource::opened(File::open(rt, capture_name));
+    let mut report = FileSource::opened(File::open(rt, report_name));
+    let mut out = LineOut::over(Some(rt.stdout()));
+    let status = audit(rt.alloc(), words, &mut capture, &mut report, &mut out);
+    let errors = [capture.last_error(), report.last_error(), out.last_error()];
+    let stop = last_line(out.last_written());
+    if let Some(why) = why(status, stop, capture_name, report_name, &errors) {
+        tell(rt, PROGRAM, &why);
+    }
+    ExitCode::from(status)
+}
+
+// Returns why there is no answer at this status, from the last line of standard output and the last errors of capture, report and
+// standard output.
+fn why<'a>(
+    status: u8,
+    stop: &'a str,
+    capture: &'a str,
+    report: &'a str,
+    errors: &[Option<io::Error>; 3],
+) -> Option<Why<'a>> {
+    let [of_capture, of_report, of_output] = *errors;
+    match status {
+        2 => Some(Why::Words { stop }),
+        3 | 4 => Some(Why::Malformed {
+            file: capture,
+            stop,
+        }),
+        5 => failed(capture, of_capture).or(failed(report, of_report)),
+        7 => failed(STANDARD_OUTPUT, of_output),
+        8 => Some(Why::Memory),
+        9 => Some(Why::Malformed { file: report, stop }),
+        _ => None,
+    }
 }
 
 fn without_memory(rt: &HostRuntime) -> ExitCode {
     let _ = rt.print("stop memory\n");
+    tell(rt, PROGRAM, &Why::Memory);
     ExitCode::from(8)
 }

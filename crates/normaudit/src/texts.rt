@@ -1,7 +1,7 @@
 //! The texts that the program prints if its only word asks for them.
 
 /// The answer to `--version`.
-pub const VERSION: &str = "normaudit 0.1.0\n";
+pub const VERSION: &str = "normaudit 0.2.0\n";
 
 /// The answer to `--help` and `-h`.
 pub const HELP: &str = "normaudit: an audit of a capture that norm wrote, and of its report
@@ -19,8 +19,9 @@ frame that went inwards must be one that every receiver behind at most HOPS
 routers reads alike, and those of one era must give one stream. Then any two
 receivers that begin at the same octet deliver streams of which one is a prefix of
 the other, whichever of these frames reach each of them, how often and in which
-order, if each frame does while its octets are within 2^31 of the next one. Only
-yes is conclusive: no is also the answer to an outward frame that is no segment.
+order, if each frame does while its octets and its FIN are within 2^31 of the next
+octet. Only yes is conclusive: no is also the answer to an outward frame that is
+no segment.
 One line gives the answer. norm-report(5) explains the words of a report; one of a
 run with --both is not read.
 
@@ -36,6 +37,8 @@ Status and line:
   7  none: the line could not be written, or was cut off
   8  stop memory: memory could not be allocated
   9  stop report N: REPORT is not that of a finished run, by its line N; 0 where it has over 67108864 octets
+
+From 2 on one line on standard error says why.
 
 Reasons, in the order in which they are tested:
 

@@ -4,10 +4,17 @@
 mod texts;
 
 use edge_io::{FileSource, LineOut};
+use error_line::{Why, failed, last_line, tell};
 use run_view::view;
 use std::fs::File;
 use std::process::ExitCode;
 use std::{env, io};
+
+// The name at the beginning of a line on standard error.
+const PROGRAM: &str = "normview";
+
+// The name of standard output there.
+const STANDARD_OUTPUT: &str = "standard output";
 
 fn main(rt: HostRuntime) -> ExitCode {
     let words = match words_after_name(&rt) {
@@ -17,20 +24,9 @@ fn main(rt: HostRuntime) -> ExitCode {
         Err(_) => Vec::new(rt.alloc()),
     };
     if let Some(text) = asked_text(&words) {
-        return match rt.print(text) {
-            Ok(()) => ExitCode::SUCCESS,
-            Err(_) => ExitCode::from(7),
-        };
+        return print(&rt, text);
     }
-    let (input, output, report) = opened(&rt, &words);
-    ExitCode::from(view(
-        rt.alloc(),
-        &words,
-        &mut FileSource::over(input),
-        &mut FileSource::over(output),
-        &mut FileSource::over(report),
-        &mut LineOut::over(Some(rt.stdout())),
-    ))
+    view_files(&rt, &words)
 }
 
 // The words of the command line without the program's own name.
@@ -52,25 +48,83 @@ fn asked_text(words: &[String]) -> Option<&'static str> {
     }
 }
 
-// The input, the output and the report that the last three words name. A file that cannot be opened
-// is a source whose every call fails.
-fn opened(rt: &HostRuntime, words: &[String]) -> (Option<File>, Option<File>, Option<File>) {
-    let [.., input, output, report] = words else {
-        return (None, None, None);
+// Prints a text, and returns the status.
+fn print(rt: &HostRuntime, text: &str) -> ExitCode {
+    let Err(error) = rt.print(text) else {
+        return ExitCode::SUCCESS;
     };
-    (
-        read(rt, input.as_str()),
-        read(rt, output.as_str()),
-        read(rt, report.as_str()),
-    )
+    let file = STANDARD_OUTPUT;
+    tell(rt, PROGRAM, &Why::Failed { file, error });
+    ExitCode::from(7)
 }
 
-// The file to read.
-fn read(rt: &HostRuntime, name: &str) -> Option<File> {
-    File::open(rt, name).ok()
+// Views the run whose files the last three words name, and returns the status. A file that cannot be
+// opened is a source whose every call fails.
+fn view_files(rt: &HostRuntime, words: &[String]) -> ExitCode {
+    let (input_name, output_name, report_name) = match words {
+        [.., input, output, report] => (input.as_str(), output.as_str(), report.as_str()),
+        _ => ("", "", ""),
+    };
+    let mut input = FileSource::opened(File::open(rt, input_name));
+    let mut output = FileSource::opened(File::open(rt, output_name));
+    let mut report = FileSource::opened(File::open(rt, report_name));
+    let mut out = LineOut::over(Some(rt.stdout()));
+    let status = view(
+        rt.alloc(),
+        words,
+        &mut input,
+        &mut output,
+        &mut report,
+        &mut out,
+    );
+    let errors = [
+        input.last_error(),
+        output.last_error(),
+        report.last_error(),
+        out.last_error(),
+    ];
+    let stop = words_of(last_line(out.last_written()));
+    if let Some(why) = why(status, stop, input_name, output_name, report_name, &errors) {
+        tell(rt, PROGRAM, &why);
+    }
+    ExitCode::from(status)
+}
+
+// Returns why there is no answer at this status, from the last line of standard output and the last
+// errors of the three files and of standard output.
+fn why<'a>(
+    status: u8,
+    stop: &'a str,
+    input: &'a str,
+    output: &'a str,
+    report: &'a str,
+    errors: &[Option<io::Error>; 4],
+) -> Option<Why<'a>> {
+    let [of_input, of_output, of_report, of_print] = *errors;
+    match status {
+        2 => Some(Why::Words { stop }),
+        3 | 4 if stop.starts_with("stop out ") => Some(Why::Malformed { file: output, stop }),
+        3 | 4 => Some(Why::Malformed { file: input, stop }),
+        5 => failed(input, of_input)
+            .or(failed(output, of_output))
+            .or(failed(report, of_report)),
+        7 => failed(STANDARD_OUTPUT, of_print),
+        8 => Some(Why::Memory),
+        9 => Some(Why::Malformed { file: report, stop }),
+        _ => None,
+    }
+}
+
+// Returns the words of a stop, which are in an object if JSON was asked for.
+fn words_of(line: &str) -> &str {
+    match line.split_once("\"reason\":\"") {
+        Some((_, reason)) => reason.strip_suffix("\"}").unwrap_or(reason),
+        None => line,
+    }
 }
 
 fn without_memory(rt: &HostRuntime) -> ExitCode {
     let _ = rt.print("stop memory\n");
+    tell(rt, PROGRAM, &Why::Memory);
     ExitCode::from(8)
 }

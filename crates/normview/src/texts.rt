@@ -1,7 +1,7 @@
 //! The texts that the program prints if its only word asks for them.
 
 /// The answer to `--version`.
-pub const VERSION: &str = "normview 0.1.0\n";
+pub const VERSION: &str = "normview 0.2.0\n";
 
 /// The answer to `--help` and `-h`.
 pub const HELP: &str = "normview: what became of each record of a run of norm, and why
@@ -15,40 +15,52 @@ usage: normview [OPTION..] IN OUT REPORT
 
 The files are those of a finished run. They are read in step, a record at a time:
 memory grows with the eras alone. A summary is printed: verdicts by side, frames,
-each rule that was named with its number and a sentence, eras by their end; then a
-line for each era. norm-report(5) explains the words of a report.
+each rule that was named with its number and a sentence, eras by their end and by
+what opened them; then a line for each era. norm-report(5) explains the words of a
+report.
 
-Options go before IN, each at most once, as --name=VALUE or --name VALUE. With one
-or more of the first three, a line is printed for each record that fits all of them,
-and no summary:
+Options go before IN, each at most once, as --name=VALUE or --name VALUE. A LIST has
+its items between commas, each once. With one or more of the first five, all lines of
+the records that meet each of them are printed, and how many such records there are:
 
-  --rule NAME  records whose line names this rule
-  --era E      records that belong to era E, begin it or end it: 1 to 4294967295
-  --only WORD  records with this verdict: pass, fix, hold or drop
-  --json       a JSON object for each of these records; without a choice for all records and eras
+  --rule LIST   records of which a line names one of these rules: T_CLASH,T_OLD
+  --era E       records of which a line belongs to era E, begins it or ends it; second:E with --both
+  --only LIST   records of which a line has one of these verdicts: pass, fix, hold, drop
+  --side LIST   records with one of these sides: in, out, -
+  --host A      records from or to this address or prefix: 10.0.0.1, 10.0.0.0/8
+  --json        JSON objects, one a line
+  --table NAME  a table, its cells with tabs between them: records or eras; eras with no choice
 
 The line of a record has these parts; what a record lacks is left out:
 
-  N TIME SIDE SRC:PORT > DST:PORT PROTO FLAGS seq S ack A len L VERDICT
-    era E RULE (sentence) frames F; frame I FIELD FROM > TO, FIELD FROM > TO; ..
+  N TIME SIDE SRC:PORT > DST:PORT PROTO FLAGS seq S ack A window W type T code C
+    id I offset O more len L VERDICT era E begins era E ends era E REASON octets N
+    RULE (sentence) frames F out K; frame I FIELD FROM > TO, FIELD FROM > TO; ..
 
-N is the record's number, L the captured octets of its payload. Of the F frames those are
-listed that differ from the record: frame I in each FIELD, from its value in the
-record to that in the frame, - for none. Of the payload it says how many octets
-were cut in front and at the end, how many the frame has more, and which were
-replaced, each with the offset in the record's. A frame that norm made itself is not
-compared: frame I probe or frame I datagram, with its protocol, marks and length.
+N is the record's number, L the captured octets of its payload, K the numbers in OUT of
+its F frames. The window stands on a line that names T_WINDOW, I, O and more on one
+that names a rule of fragments. Where no IPv4 header can be read, PROTO is arp or type
+and the EtherType. Of the frames those are listed that differ from the record: frame I in
+each FIELD, from its value in the record to that in the frame, - for none. Of the payload
+it says how many octets were cut in front and at the end, how many the frame has more,
+and which were replaced, with the offset in the record's; of octets the first 64 are
+shown. A frame that norm made itself is not compared: frame I probe or frame I datagram,
+with its protocol, marks and length.
 
-With --both a line of the second engine is N/K: its line /K, of record N. Its frames are
-those in OUT; a line of the first engine has no changes. Verdicts of the second engine
-have lines of their own in the summary, and its eras are named era second E.
+With --both a line of the second engine is N/K: its line /K, of record N; it is printed
+with the others of its record. A line of the first engine has no frames in OUT: given F
+says how many the second engine was given. Verdicts of the second engine have lines of
+their own in the summary, and its eras are named era second E.
 
-The line of an era has these:
+The line of an era has these; the outside host comes first:
 
-  era E SRC:PORT > DST:PORT FIRST LAST records N octets O END RULE ..
+  era E OUTSIDE:PORT <-> INSIDE:PORT opened WORD FIRST LAST records N sent S octets O
+    END RULE ..
 
-FIRST and LAST are the times of its first and its last record, - without one, O the
-octets of its segments that went inwards, each time that they did, END live or why it ended.
+WORD is in for a SYN of the outside host, out for one of the inside host, mid for anything
+else. FIRST and LAST are the times of its first and its last record, - without one, S the
+octets of its segments that went inwards, each time that they did, O the number of the
+report, which counts each offset once, END live or why it ended.
 
 Status and last line:
 
@@ -64,6 +76,8 @@ Status and last line:
   8  stop memory: memory could not be allocated
   9  stop report N: line N of REPORT belongs to no report of a finished run
 
+From 2 on one line on standard error says why.
+
 KIND is magic, version, link, block, long or many, as in a report. What was printed
 before a last line stays.
 
@@ -71,5 +85,6 @@ Examples:
 
   normview in.pcap out.pcap report.txt
   normview --rule T_CLASH in.pcap out.pcap report.txt
-  normview --json --only drop in.pcap out.pcap report.txt
+  normview --json --only drop,hold in.pcap out.pcap report.txt
+  normview --table eras in.pcap out.pcap report.txt
 ";
