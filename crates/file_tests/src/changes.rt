@@ -1,7 +1,8 @@
 //! Frames compared by hand.
 use edge_io::NoMemory;
 use frame_view::{
-    Change, Flow, Made, PayloadChange, Ports, TcpMarks, add_changes, add_made, flow_of, length_of,
+    Change, Flow, IcmpMarks, Made, PayloadChange, Ports, Said, TcpMarks, add_changes, add_made,
+    flow_of, length_of,
 };
 use hex::FromHexError;
 use std::alloc::Global;
@@ -55,25 +56,32 @@ fn front(octets: &[u8], len: usize) -> &[u8] {
     }
 }
 
-// Writes a value, `-` where there is none.
-fn put_value(text: &mut String, value: &Option<String>) -> Result<(), NoMemory> {
+// Writes a value: a number, octets in hexadecimal digits, or `-` where there is none.
+fn put_value(alloc: Global, text: &mut String, value: &Said) -> Result<(), NoMemory> {
     match value {
-        Some(value) => text.push_str(value.as_str())?,
-        None => text.push_str("-")?,
+        Said::Nothing => text.push_str("-")?,
+        Said::Number(number) => text.push_str(format!(in alloc; "{number}")?.as_str())?,
+        Said::Octets(octets) => text.push_str(hex::encode(alloc, octets.as_slice())?.as_str())?,
     }
     Ok(())
 }
 
+// Writes octets in hexadecimal digits behind a word.
+fn put_octets(alloc: Global, text: &mut String, word: &str, octets: &[u8]) -> Result<(), NoMemory> {
+    text.push_str(word)?;
+    text.push_str(hex::encode(alloc, octets)?.as_str())?;
+    Ok(())
+}
+
 fn put_payload(alloc: Global, text: &mut String, payload: &PayloadChange) -> Result<(), NoMemory> {
-    let front = payload.front;
-    let end = payload.end;
-    let longer = payload.longer;
-    text.push_str(format!(in alloc; "payload front {front} end {end} longer {longer}")?.as_str())?;
+    put_octets(alloc, text, "payload front ", payload.front.as_slice())?;
+    put_octets(alloc, text, " end ", payload.end.as_slice())?;
+    put_octets(alloc, text, " longer ", payload.longer.as_slice())?;
     for run in payload.replaced.as_slice() {
         let at = run.at;
-        let from = run.from.as_str();
-        let to = run.to.as_str();
-        text.push_str(format!(in alloc; " at {at} {from} > {to}")?.as_str())?;
+        text.push_str(format!(in alloc; " at {at}")?.as_str())?;
+        put_octets(alloc, text, " ", run.from.as_slice())?;
+        put_octets(alloc, text, " > ", run.to.as_slice())?;
     }
     Ok(())
 }
@@ -108,9 +116,9 @@ fn put_change(alloc: Global, text: &mut String, change: &Change) -> Result<(), N
         } => {
             let name = field.name();
             text.push_str(format!(in alloc; "{frame} {name} ")?.as_str())?;
-            put_value(text, from)?;
+            put_value(alloc, text, from)?;
             text.push_str(" > ")?;
-            put_value(text, to)?;
+            put_value(alloc, text, to)?;
         }
         Change::InPayload { frame, payload } => {
             text.push_str(format!(in alloc; "{frame} ")?.as_str())?;
@@ -169,6 +177,7 @@ fn headers_say_what_they_say(rt: HostRuntime) -> Result<(), NoMemory> {
         flags: Flags(2),
         seq: 999,
         ack: 0,
+        window: 8192,
     });
     assert_eq!(rt;
         flow_of(Link::Raw, syn.as_slice()),
@@ -176,11 +185,15 @@ fn headers_say_what_they_say(rt: HostRuntime) -> Result<(), NoMemory> {
             src,
             dst,
             protocol: 6,
+            identification: 1,
+            offset: 0,
+            more: false,
             ports: Some(Ports {
                 src: 40000,
                 dst: 80
             }),
             tcp,
+            icmp: None,
             length: 0
         })
     );
@@ -190,11 +203,15 @@ fn headers_say_what_they_say(rt: HostRuntime) -> Result<(), NoMemory> {
             src,
             dst,
             protocol: 17,
+            identification: 1,
+            offset: 0,
+            more: false,
             ports: Some(Ports {
                 src: 40000,
                 dst: 53
             }),
             tcp: None,
+            icmp: None,
             length: 2
         })
     );
@@ -229,7 +246,7 @@ fn a_raised_ttl_changes_the_sum(rt: HostRuntime) -> Result<(), NoMemory> {
     let text = changes_text(rt.alloc(), Link::Raw, low.as_slice(), raised.as_slice())?;
     assert_eq!(rt;
         text.as_str(),
-        "1 ttl 30 > 31\n1 header_checksum 0x6893 > 0x6793\n"
+        "1 ttl 30 > 31\n1 header_checksum 26771 > 26515\n"
     );
     Ok(())
 }
@@ -239,17 +256,17 @@ fn payloads_differ_by_runs_and_cuts(rt: HostRuntime) -> Result<(), NoMemory> {
     assert_eq!(rt; raw_changes(rt.alloc(), ABCD, ABCD)?.as_str(), "");
     assert_eq!(rt;
         raw_changes(rt.alloc(), ABXD, ABCD)?.as_str(),
-        "1 checksum 0xedc4 > 0xe2c4\n1 payload front 0 end 0 longer 0 at 2 58 > 63\n"
+        "1 checksum 60868 > 58052\n1 payload front  end  longer  at 2 58 > 63\n"
     );
     assert_eq!(rt;
         raw_changes(rt.alloc(), ABCD, PROBE)?.as_str(),
-        "1 total_length 44 > 40\n1 header_checksum 0x4690 > 0x4694\n1 sequence 1000 > 999\n1 flags PA > A\n\
-         1 checksum 0xe2c4 > 0xa798\n1 payload front 0 end 4 longer 0\n"
+        "1 total_length 44 > 40\n1 header_checksum 18064 > 18068\n1 sequence 1000 > 999\n1 flags 24 > 16\n\
+         1 checksum 58052 > 42904\n1 payload front  end 61626364 longer \n"
     );
     assert_eq!(rt;
         raw_changes(rt.alloc(), PROBE, ABCD)?.as_str(),
-        "1 total_length 40 > 44\n1 header_checksum 0x4694 > 0x4690\n1 sequence 999 > 1000\n1 flags A > PA\n\
-         1 checksum 0xa798 > 0xe2c4\n1 payload front 0 end 0 longer 4\n"
+        "1 total_length 40 > 44\n1 header_checksum 18068 > 18064\n1 sequence 999 > 1000\n1 flags 16 > 24\n\
+         1 checksum 42904 > 58052\n1 payload front  end  longer 61626364\n"
     );
     Ok(())
 }
@@ -267,7 +284,7 @@ fn octets_are_cut_off_at_the_front(rt: HostRuntime) -> Result<(), NoMemory> {
     let text = changes_text(rt.alloc(), Link::Raw, record.as_slice(), frame.as_slice())?;
     assert_eq!(rt;
         text.as_str(),
-        "1 total_length 44 > 42\n1 sequence 1000 > 1002\n1 payload front 2 end 0 longer 0 at 2 63 > 78\n"
+        "1 total_length 44 > 42\n1 sequence 1000 > 1002\n1 payload front 6162 end  longer  at 2 63 > 78\n"
     );
     Ok(())
 }
@@ -283,9 +300,28 @@ fn fields_that_a_frame_has_not_are_absent(rt: HostRuntime) -> Result<(), NoMemor
         text.as_str(),
         "1 version 4 > -\n1 header_length 20 > -\n1 type_of_service 0 > -\n1 total_length 30 > -\n1 identification 1 > -\n\
          1 reserved_bit 0 > -\n1 dont_fragment 0 > -\n1 more_fragments 0 > -\n1 fragment_offset 0 > -\n1 ttl 64 > -\n1 protocol 17 > -\n\
-         1 header_checksum 0x4693 > -\n1 source 198.51.100.7 > -\n1 destination 10.0.0.1 > -\n1 source_port 40000 > -\n1 destination_port 53 > -\n\
-         1 checksum 0xc6bf > -\n1 udp_length 10 > -\n1 payload front 0 end 0 longer 28 at 0 6869 > 6500\n"
+         1 header_checksum 18067 > -\n1 source 3325256711 > -\n1 destination 167772161 > -\n1 source_port 40000 > -\n1 destination_port 53 > -\n\
+         1 checksum 50879 > -\n1 udp_length 10 > -\n\
+         1 payload front  end  longer 001e0001000040114693c63364070a0000019c400035000ac6bf6869 at 0 6869 > 6500\n"
     );
+    Ok(())
+}
+
+// An echo request (RFC 792) and the same cut to seven octets.
+#[test]
+fn type_and_code_are_read(rt: HostRuntime) -> Result<(), NoMemory> {
+    let digits = "450000200001000040014695c63364070a00000108007a6300070001706f6e67";
+    let echo = octets(rt.alloc(), digits)?;
+    let flow = flow_of(Link::Raw, echo.as_slice());
+    assert_eq!(rt;
+        flow.and_then(|flow| flow.icmp),
+        Some(IcmpMarks { kind: 8, code: 0 })
+    );
+    assert_eq!(rt; length_of(Link::Raw, echo.as_slice()), 12);
+    let mut short = octets(rt.alloc(), digits)?;
+    put_octet(&mut short, 3, 27);
+    let flow = flow_of(Link::Raw, short.as_slice());
+    assert_eq!(rt; flow.and_then(|flow| flow.icmp), None);
     Ok(())
 }
 
@@ -309,8 +345,12 @@ fn trailers_and_fragments_are_read(rt: HostRuntime) -> Result<(), NoMemory> {
             src: Addr(0xc633_6407),
             dst: Addr(0x0a00_0001),
             protocol: 17,
+            identification: 1,
+            offset: 8,
+            more: false,
             ports: None,
             tcp: None,
+            icmp: None,
             length: 10
         })
     );
@@ -337,8 +377,8 @@ fn a_total_length_that_cannot_be_ends_nothing(rt: HostRuntime) -> Result<(), NoM
             record.as_slice(),
         )?
         .as_str(),
-        "1 total_length 30 > 20\n1 source_port 40000 > -\n1 destination_port 53 > -\n1 checksum 0xc6bf > -\n1 udp_length 10 > -\n\
-         1 payload front 0 end 2 longer 0\n1 trailer - > 9c400035000ac6bf6869\n"
+        "1 total_length 30 > 20\n1 source_port 40000 > -\n1 destination_port 53 > -\n1 checksum 50879 > -\n1 udp_length 10 > -\n\
+         1 payload front  end 6869 longer \n1 trailer - > 9c400035000ac6bf6869\n"
     );
     Ok(())
 }

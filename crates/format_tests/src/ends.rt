@@ -44,6 +44,8 @@ fn a_file_has_what_its_sink_was_given(rt: HostRuntime) -> Result<(), Fail> {
 fn standard_output_takes_lines(rt: HostRuntime) {
     let mut out = LineOut::over(Some(rt.stdout()));
     assert!(rt; put_in_pieces(&mut out, b"a line\n", 4).is_ok());
+    assert!(rt; out.last_error().is_none());
+    assert_eq!(rt; out.last_written(), b"a line\n".as_slice());
     let mut none = LineOut::over(None);
     assert_eq!(rt; none.flush(), Err(Failed));
     assert_eq!(rt; none.faults(), 1);
@@ -94,6 +96,25 @@ fn an_interrupted_call_is_repeated(rt: HostRuntime) {
     // A write that takes no octet is an error.
     let mut full = BufferedSink::over(Some(Interrupted { calls: 0, takes: 0 }));
     assert!(rt; put_in_pieces(&mut full, b"abc", 3).is_err());
+    assert!(rt; is_kind(full.last_error(), ErrorKind::WriteZero));
+}
+
+fn is_kind(error: Option<io::Error>, kind: ErrorKind) -> bool {
+    match error {
+        Some(error) => error.kind() == kind,
+        None => false,
+    }
+}
+
+#[test]
+fn a_call_fails_by_the_error_of_its_file(rt: HostRuntime) {
+    let mut source = FileSource::opened(File::open(&rt, "no/such/file"));
+    assert!(rt; source.last_error().is_none());
+    assert_eq!(rt; source.fetch(&mut [0]), Err(Failed));
+    assert!(rt; is_kind(source.last_error(), ErrorKind::NotFound));
+    let mut sink = FileSink::opened(File::create(&rt, "no/such/file"));
+    assert_eq!(rt; sink.put(b"a"), Err(Failed));
+    assert!(rt; is_kind(sink.last_error(), ErrorKind::NotFound));
 }
 
 #[test]
