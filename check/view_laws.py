@@ -1,5 +1,7 @@
-"""Laws of a view: its text, its JSON and its summary say one thing, and a frame is its record with the changes, or one that norm made."""
+"""Laws of a view: its text, its JSON, its tables and its summary say one thing, a choice chooses whole records, and a frame is its record with the
+changes, or one that norm made."""
 
+import ipaddress
 import json
 
 from norm_model.capture import read_head, read_records
@@ -7,53 +9,98 @@ from norm_model.formats import four, two
 from norm_model.run import read_input
 from norm_model.sentences import SENTENCES
 from norm_model.view import view
-from norm_model.view_fields import ADDRESSES, CHECKSUMS, HEX, LETTERS, fields_of, value_text
-from norm_model.view_texts import VERDICTS
+from norm_model.view_fields import ADDRESSES, CHECKSUMS, HEX, LETTERS, fields_of, is_decimal, value_text
+from norm_model.view_lists import VERDICTS
 
 NAMES = ["IN", "OUT", "REPORT"]
+
+MADE = ("probe", "datagram")
 
 
 def broken_law(files):
     """The first law that the model breaks on these three files, or None. A view that stops has none but that of its end."""
+    try:
+        return broken_of_whole(files)
+    except AssertionError as broken:
+        return str(broken)
+
+
+def broken_of_whole(files):
     status, summary = view(NAMES, files)
-    answers = {verdict: view(["--only", verdict] + NAMES, files) for verdict in VERDICTS}
+    every = view(["--side", "in,out,-"] + NAMES, files)
     as_json = view(["--json"] + NAMES, files)
-    if {answer[0] for answer in answers.values()} | {as_json[0]} != {status}:
+    tables = [view(["--table", name] + NAMES, files) for name in ("records", "eras")]
+    if {answer[0] for answer in (every, as_json, *tables)} != {status}:
         return "the status depends on the words"
     if status != 0:
-        return None if as_json[1].endswith(summary) and summary.count("\n") == 1 else "another last line"
+        return stop_law(status, summary, as_json[1], [every[1], tables[0][1], tables[1][1]])
     values = [json.loads(line) for line in as_json[1].splitlines()]
     records = [value for value in values if value["event"] == "record"]
     eras = [value for value in values if value["event"] == "era"]
-    return text_law(records, answers) or summary_law(records, eras, summary, files) or frames_law(records, eras, files)
+    if [value["event"] for value in values] != ["record"] * len(records) + ["summary"] + ["era"] * len(eras):
+        return "objects in another order"
+    return text_law(records, every[1]) or summary_law(records, values[len(records)], eras, summary, files) or table_law(records, tables[0][1]) \
+        or table_law(eras, tables[1][1]) or choice_law(records, files) or frames_law(records, eras, files)
+
+
+def stop_law(status, summary, as_json, texts):
+    if summary.count("\n") != 1 or any(text.splitlines()[-1] + "\n" != summary for text in texts):
+        return "another last line"
+    return None if json.loads(as_json.splitlines()[-1]) == {"event": "stop", "status": status, "reason": summary[:-1]} else "another stop as JSON"
 
 
 # The text is that of the JSON
 
-def ends(value):
-    places = [(value["src_ip"], value["src_port"]), (value["dest_ip"], value["dest_port"])]
-    return " > ".join(("-" if ip is None else ip) + ("" if port is None else ":%d" % port) for ip, port in places)
+def ends(value, names, joint):
+    places = [(value[name + "_ip"], value[name + "_port"]) for name in names]
+    return joint.join(("-" if ip is None else ip) + ("" if port is None else ":%d" % port) for ip, port in places)
 
 
 def marks(value):
-    """The protocol, and of TCP the flags and the numbers."""
-    return "" if value["flags"] is None else " %s seq %d ack %d" % (value["flags"], value["seq"], value["ack"])
+    """The protocol or the type in the header of the link, and of TCP the flags and the numbers."""
+    text = "" if value["flags"] is None else " %s seq %d ack %d" % (value["flags"], value["seq"], value["ack"])
+    kind = value.get("ethertype")
+    return (value["proto"] or ("-" if kind is None else kind if kind == "arp" else "type " + kind)) + text
+
+
+def more_marks(value):
+    words = ["%s %d" % (word, value[name]) for word, name in [("window", "window"), ("type", "icmp_type"), ("code", "icmp_code"), ("id", "id"),
+                                                              ("offset", "offset")]
+             if value[name] is not None]
+    return words + ["more"] * (value["more"] is True)
+
+
+def octets_text(value):
+    """The text of octets, and how many they are more; the object has all of them."""
+    octets = bytes.fromhex(value["hex"])
+    text = "".join({34: '\\"', 92: "\\\\"}.get(octet, chr(octet) if 32 <= octet < 127 else "\\x%02x" % octet) for octet in octets[:64])
+    assert (text, len(octets)) == (value["text"], value["length"]), "a text of octets says otherwise than their digits"
+    return '"%s"' % text + (" and %d more" % (len(octets) - 64) if len(octets) > 64 else "")
 
 
 def change(value):
-    if value["field"] in ("probe", "datagram"):
-        return value["field"] + ("" if value["proto"] is None else " " + value["proto"]) + marks(value) + " len %d" % value["len"]
+    if value["field"] in MADE:
+        assert value["compared"] is False, "a frame that norm made is compared"
+        proto = "" if value["proto"] is None else " " + marks(value)
+        return value["field"] + proto + " len %d" % value["length"] + {"probe": "", "datagram": ", compared with no record"}[value["field"]]
     if value["field"] != "payload":
-        return "%s %s > %s" % (value["field"], value["from"] or "-", value["to"] or "-")
-    parts = ["%s %d" % (name, value[name]) for name in ("front", "end", "longer") if value[name]]
-    return " ".join(["payload"] + parts + ["at %d %s > %s" % (run["at"], run["from"], run["to"]) for run in value["replaced"]])
+        return "%s %s > %s" % (value["field"], *("-" if value[name] is None else value[name] for name in ("from", "to")))
+    parts = ["%s %d %s" % (name, value[name]["length"], octets_text(value[name])) for name in ("front", "end", "longer") if value[name]]
+    return " ".join(["payload"] + parts + ["at %d %s > %s" % (run["at"], octets_text(run["from"]), octets_text(run["to"]))
+                                           for run in value["replaced"]])
 
 
 def record_line(value):
     number = {"first": "%d", "second": "%%d/%d" % value["number"]}[value["by"]] % value["record"]
-    words = [number, value["time"], value["side"] or "-", ends(value), (value["proto"] or "-") + marks(value)]
-    words += ["len %d" % value["length"], value["verdict"]] + (["era %d" % value["era"]] if value["era"] is not None else [])
-    words += ["%s (%s)" % (rule, SENTENCES[rule]) for rule in value["rules"]] + ["frames %d" % value["frames"]]
+    words = [number, value["time"], value["side"] or "-", ends(value, ("src", "dest"), " > "), marks(value), *more_marks(value)]
+    words += ["len %d" % value["length"], value["verdict"]] + ["%s %d" % (word, value[name]) for word,
+                                                               name in (("era", "era"), ("begins era", "begun")) if value[name] is not None]
+    words += ["ends era %d %s" % (end["era"], end["reason"]) + ("" if end["octets"] is None else " octets %d" % end["octets"])
+              for end in value["ended"]]
+    words += ["%s (%s)" % (rule, SENTENCES[rule]) for rule in value["rules"]]
+    words.append("frames %d" % value["frames"] if value["given"] is None else "given %d" % value["given"])
+    if value["out"] is not None:
+        words.append("out " + "-".join(str(number) for number in dict.fromkeys([value["out"][0], value["out"][-1]])))
     for frame in range(1, value["frames"] + 1):
         changes = [change(one) for one in value["changes"] if one["frame"] == frame]
         if changes:
@@ -61,11 +108,75 @@ def record_line(value):
     return " ".join(words)
 
 
-def text_law(records, answers):
-    for verdict, (_, text) in answers.items():
-        wanted = [record_line(value) for value in records if value["verdict"] == verdict]
-        if text.splitlines() != wanted:
-            return "--only %s says otherwise than the JSON" % verdict
+def text_law(records, text):
+    wanted = [record_line(value) for value in records] + ["chosen %d" % sum(value["by"] == "first" for value in records)]
+    return None if text.splitlines() == wanted else "the text of the records says otherwise than the JSON"
+
+
+# A table is that of the JSON
+
+def cell(name, value):
+    if value is None or value == []:
+        return "-"
+    if name == "changes":
+        return ",".join("%d:%s" % (one["frame"], one["field"]) for one in value)
+    if name == "ended":
+        return ",".join(":".join(str(part) for part in (one["era"], one["reason"], one["octets"]) if part is not None) for one in value)
+    if name == "out":
+        return "-".join(str(number) for number in dict.fromkeys([value[0], value[-1]]))
+    if isinstance(value, bool):
+        return str(value).lower()
+    return ",".join(value) if isinstance(value, list) else str(value)
+
+
+def table_law(values, text):
+    heading, *rows = [line.split("\t") for line in text.splitlines()]
+    if heading[:2] not in (["record", "by"], ["era", "by"]):
+        return "another heading"
+    wanted = [[cell(name, value[name]) for name in heading] for value in values]
+    same_names = all(["event"] + heading == list(value) for value in values)
+    return None if rows == wanted and same_names else "a table says otherwise than the JSON"
+
+
+# A choice has all lines of each record that meets it
+
+def of_network(value, network):
+    return any(value[name] is not None and ipaddress.ip_address(value[name]) in network for name in ("src_ip", "dest_ip"))
+
+
+def eras_of(value):
+    return [value["era"], value["begun"]] + [end["era"] for end in value["ended"]]
+
+
+CHOICES = [
+    (["--only=fix,drop"], lambda lines: any(line["verdict"] in ("fix", "drop") for line in lines)),
+    (["--only", "pass"], lambda lines: any(line["verdict"] == "pass" for line in lines)),
+    (["--rule=T_CLASH,T_OLD,C_PROBE"], lambda lines: any(rule in ("T_CLASH", "T_OLD", "C_PROBE") for line in lines for rule in line["rules"])),
+    (["--era=1"], lambda lines: 1 in eras_of(lines[0])),
+    (["--era", "second:1"], lambda lines: any(1 in eras_of(line) for line in lines[1:])),
+    (["--side=in,-"], lambda lines: lines[0]["side"] in ("in", None)),
+    (["--host", "10.0.0.0/8"], lambda lines: of_network(lines[0], ipaddress.ip_network("10.0.0.0/8"))),
+    (["--host=198.51.100.7"], lambda lines: of_network(lines[0], ipaddress.ip_network("198.51.100.7/32"))),
+    (["--side", "out", "--only=pass,drop", "--era=2"], lambda lines: lines[0]["side"] == "out"
+     and any(line["verdict"] in ("pass", "drop") for line in lines)
+     and 2 in eras_of(lines[0])),
+]
+
+
+def groups_of(records):
+    """The lines of each record."""
+    groups = {}
+    for value in records:
+        groups.setdefault(value["record"], []).append(value)
+    return list(groups.values())
+
+
+def choice_law(records, files):
+    for words, meets in CHOICES:
+        chosen = [lines for lines in groups_of(records) if meets(lines)]
+        wanted = [line for lines in chosen for line in lines] + [{"event": "chosen", "records": len(chosen)}]
+        if [json.loads(line) for line in view(["--json"] + words + NAMES, files)[1].splitlines()] != wanted:
+            return " ".join(words) + " chooses other records"
     return None
 
 
@@ -74,51 +185,79 @@ def text_law(records, answers):
 def side_lines(lines, lead):
     """The counts of the verdicts, of these lines of the report."""
     words = [line.split(" ")[1:3] for line in lines]
-    return ["%s%s %s" % (lead, side, " ".join("%s %d" % (verdict, words.count([side, verdict])) for verdict in VERDICTS)) for side in ("in", "out", "-")]
+    return ["%s%s %s" % (lead, side, " ".join("%s %d" % (verdict, words.count([side, verdict])) for verdict in VERDICTS))
+            for side in ("in", "out", "-")]
 
 
 def era_line(value):
     words = ["era", "second"] if value["by"] == "second" else ["era"]
-    words += [str(value["era"]), ends(value), value["first"] or "-", value["last"] or "-"]
-    return " ".join(words + ["records %d" % value["records"], "octets %d" % value["octets"], value["end"]] + value["rules"])
+    words += [str(value["era"]), ends(value, ("outside", "inside"), " <-> ")] + (["opened " + value["opened"]] if value["opened"] else [])
+    words += [value["first"] or "-", value["last"] or "-", "records %d" % value["records"], "sent %d" % value["sent"]]
+    return " ".join(words + (["octets %d" % value["octets"]] if value["octets"] is not None else []) + [value["end"]] + value["rules"])
 
 
-def summary_law(records, eras, summary, files):
+def counted(value, name):
+    """The line of sides that this object is of."""
+    side = name.replace("second_", "").replace("neither", "-")
+    return [("second " if name.startswith("second") else "") + side + "".join(" %s %d" % pair for pair in value[name].items())] if value[name] else []
+
+
+def summary_text(value):
+    """The lines of the object."""
+    texts = ["records %d" % value["records"]] + [line for name in ("in", "out", "neither", "second_in", "second_out", "second_neither")
+                                                 for line in counted(value, name)]
+    texts += ["frames %d" % value["frames"]]
+    texts += ["rule %s %d (%s)" % (one["rule"], one["in"] + one["out"] + one["neither"], SENTENCES[one["rule"]]) for one in value["rules"]]
+    eras = value["eras"]
+    return texts + ["eras %d" % eras["all"] + "".join(" %s %d" % (end, eras[end]) for end in ("live", "reset", "evicted", "idle", "reopened"))
+                    + " opened"
+                    + "".join(" %s %d" % (way, eras["opened_" + way]) for way in ("in", "out", "mid"))]
+
+
+def summary_law(records, value, eras, summary, files):
     lines = files[2].decode("ascii").splitlines()
     both, last, lines = lines[0].endswith(" both"), lines[-1].split(" "), lines[1:-1]
     behind = [line for line in lines if line.startswith("/")]
     wanted = ["records " + last[1]] + side_lines([line for line in lines if line not in behind], "")
     wanted += side_lines(behind, "second ") if both else []
-    named = [word for line in lines for word in line.split(" ") if word in SENTENCES]
-    wanted += ["frames " + last[2]] + ["rule %s %d (%s)" % (rule, named.count(rule), SENTENCES[rule]) for rule in dict.fromkeys(named)]
-    found = [value["end"] for value in eras]
-    wanted.append(" ".join(["eras %d" % len(eras)] + ["%s %d" % (end, found.count(end)) for end in ("live", "reset", "evicted", "idle", "reopened")]))
-    if summary.splitlines() != wanted + [era_line(value) for value in eras]:
+    named = [(word, line.split(" ")[1]) for line in lines for word in line.split(" ") if word in SENTENCES]
+    rules = list(dict.fromkeys(rule for rule, _ in named))
+    wanted += ["frames " + last[2]] + ["rule %s %d (%s)" % (rule, sum(rule == one for one, _ in named), SENTENCES[rule]) for rule in rules]
+    found, ways = [era["end"] for era in eras], [era["opened"] for era in eras]
+    wanted.append(" ".join(["eras %d" % len(eras)] + ["%s %d" % (end, found.count(end)) for end in ("live", "reset", "evicted", "idle", "reopened")]
+                           + ["opened"] + ["%s %d" % (way, ways.count(way)) for way in ("in", "out", "mid")]))
+    if summary.splitlines() != wanted + [era_line(era) for era in eras] or summary_text(value) != wanted:
         return "the summary is not that of the report"
-    numbers = [("/%d" if value["by"] == "second" else "%d") % value["number"] for value in records]
+    if [[one[name] for name in ("in", "out", "neither")] for one in value["rules"]] != [[named.count((rule, side)) for side in ("in", "out", "-")]
+                                                                                        for rule in rules]:
+        return "the rules have other sides than in the report"
+    numbers = [("/%d" if one["by"] == "second" else "%d") % one["number"] for one in records]
     if numbers != [line.split(" ")[0] for line in lines]:
         return "other records than the report has lines"
-    return None if sorted(eras, key=lambda value: value["by"]) == eras else "an era of the second engine before one of the first"
+    ended = {(one["by"], end["era"]): (end["reason"], end["octets"]) for one in records for end in one["ended"]}
+    if any(ended.get((era["by"], era["era"]), ("live", None)) != (era["end"], era["octets"]) for era in eras):
+        return "an era has another end than its record says"
+    return None if sorted(eras, key=lambda era: era["by"]) == eras else "an era of the second engine before one of the first"
 
 
 # A frame is its record with the changes
 
 def number_of(field, text):
-    """The octets or the number of a value's text."""
+    """The octets or the number of a value in JSON."""
+    if is_decimal(field):
+        assert type(text) is int, "a number that is none"
+        return text
     if field in HEX:
         return bytes.fromhex(text)
     if field in CHECKSUMS:
         return int(text, 16)
     if field in ADDRESSES:
         return int.from_bytes(bytes(int(part) for part in text.split(".")), "big")
-    if field == "flags":
-        return sum(flag for letter, flag in LETTERS if letter in text)
-    return int(text)
+    return sum(flag for letter, flag in LETTERS if letter in text)
 
 
-def octets_of(texts, payload):
+def octets_of(have, payload):
     """The frame of these fields."""
-    have = {field: number_of(field, text) for field, text in texts.items()}
     octets = have.get("link", b"")
     if "version" in have:
         marks = have["reserved_bit"] * 32768 + have["dont_fragment"] * 16384 + have["more_fragments"] * 8192
@@ -136,29 +275,37 @@ def octets_of(texts, payload):
     return octets + payload + have.get("trailer", b"")
 
 
-def changed_payload(payload, value, more):
-    """The payload with its change; the octets that the frame has more are not told."""
-    end = len(payload) - value["end"]
+def octets_had(value):
+    return b"" if value is None else bytes.fromhex(value["hex"])
+
+
+def changed_payload(payload, value):
+    """The payload with its change."""
+    front, end = octets_had(value["front"]), octets_had(value["end"])
+    assert payload.startswith(front) and payload.endswith(end), "other octets were cut off"
     octets = bytearray(payload)
     for run in value["replaced"]:
-        before = bytes.fromhex(run["from"])
-        assert octets[run["at"]:run["at"] + len(before)] == before, "other octets were replaced"
-        octets[run["at"]:run["at"] + len(before)] = bytes.fromhex(run["to"])
-    return bytes(octets[value["front"]:end]) + more[len(more) - value["longer"]:]
+        before, after = octets_had(run["from"]), octets_had(run["to"])
+        assert octets[run["at"]:run["at"] + len(before)] == before and len(before) == len(after), "other octets were replaced"
+        octets[run["at"]:run["at"] + len(before)] = after
+    return bytes(octets[len(front):len(octets) - len(end)]) + octets_had(value["longer"])
 
 
-def rebuilt(link, record, changes, frame):
-    fields = fields_of(link, record)
-    payload = fields.pop("payload")
-    texts = {field: value_text(field, value) for field, value in fields.items()}
+def rebuilt(link, record, changes):
+    have = fields_of(link, record)
+    payload = have.pop("payload")
     for value in changes:
-        if value["field"] == "payload":
-            payload = changed_payload(payload, value, fields_of(link, frame)["payload"])
-        elif value["to"] is None:
-            del texts[value["field"]]
+        field = value["field"]
+        if field == "payload":
+            payload = changed_payload(payload, value)
+            continue
+        before = None if value["from"] is None else number_of(field, value["from"])
+        assert before == have.get(field), "another value was changed"
+        if value["to"] is None:
+            del have[field]
         else:
-            texts[value["field"]] = value["to"]
-    return octets_of(texts, payload)
+            have[field] = number_of(field, value["to"])
+    return octets_of(have, payload)
 
 
 def made_here(value, number):
@@ -186,16 +333,16 @@ def headers_of(link, frame):
     texts = {name: value_text(name, fields[name]) for name in ("protocol", "flags") if name in fields}
     proto = {"6": "tcp", "17": "udp", "1": "icmp"}.get(texts.get("protocol"), texts.get("protocol"))
     return {"proto": proto, "flags": texts.get("flags"), "seq": fields.get("sequence"), "ack": fields.get("acknowledgment"),
-            "len": len(fields["payload"])}
+            "length": len(fields["payload"]), "compared": False}
 
 
 def frame_law(link, octets, frame, changes, kind):
     """The frame is the record with the changes; or the one change names what norm made."""
     if kind is not None:
         return None if [dict(value, frame=0) for value in changes] == [dict(headers_of(link, frame), field=kind, frame=0)] else "is no " + kind
-    if any(value["field"] in ("probe", "datagram") for value in changes):
+    if any(value["field"] in MADE for value in changes):
         return "is one that norm made"
-    if rebuilt(link, octets, changes, frame) != frame:
+    if rebuilt(link, octets, changes) != frame:
         return "is not the record with its changes"
     return None if (changes == []) == (octets == frame) else "is equal and has changes, or is not and has none"
 
@@ -216,24 +363,29 @@ def frames_law(records, eras, files):
     frames = [record.octets for record in read_records(files[1], read_head(files[1]))[0]]
     if both and any(value["changes"] for value in records if value["by"] == "first"):
         return "what the first engine wrote has changes"
-    octets_in = {(value["by"], value["era"]): 0 for value in eras}
+    if both and any((value["given"], value["out"]) != (value["frames"], None) for value in records if value["by"] == "first"):
+        return "a line of the first engine of two has frames in OUT"
+    sent, taken = {(value["by"], value["era"]): 0 for value in eras}, 0
     for before, value, last in counted_lines(records, both):
         octets = source[value["record"] - 1].octets
-        if rebuilt(head.link, octets, [], octets) != octets:
+        if rebuilt(head.link, octets, []) != octets:
             return "the fields of record %d are not its octets" % value["record"]
+        if value["given"] is not None or value["out"] != (list(range(taken + 1, taken + value["frames"] + 1)) or None):
+            return "record %d: other numbers in OUT" % value["record"]
+        taken += value["frames"]
         for number in range(1, value["frames"] + 1):
             frame, changes = frames.pop(0), [one for one in value["changes"] if one["frame"] == number]
             fault = frame_law(head.link, octets, frame, changes, made(before, value, last, number))
             if fault is not None:
                 return "record %d: frame %d %s" % (value["record"], number, fault)
-            add_octets(octets_in, [value] if before is value else [before, value], fields_of(head.link, frame))
+            add_octets(sent, [value] if before is value else [before, value], fields_of(head.link, frame))
     if frames:
         return "frames of no record"
-    return None if octets_in == {(value["by"], value["era"]): value["octets"] for value in eras} else "eras have other octets"
+    return None if sent == {(value["by"], value["era"]): value["sent"] for value in eras} else "eras have other octets"
 
 
-def add_octets(octets_in, lines, fields):
+def add_octets(sent, lines, fields):
     """Adds the octets of a frame to the eras of the lines that it is of, where these are inbound."""
     for line in lines:
         if line["side"] == "in" and line["era"] is not None and "sequence" in fields:
-            octets_in[line["by"], line["era"]] += len(fields["payload"])
+            sent[line["by"], line["era"]] += len(fields["payload"])

@@ -71,8 +71,8 @@ def example_runs(asked, folder, variants=([], ["--both"], ["--mtu", "576"], ["--
             yield one
 
 
-def random_runs(asked, folder):
-    """Runs on random captures near the edge of every rule, every third with both sides protected; those that are refused are left out."""
+def random_runs(asked, folder, statuses=(0, 4)):
+    """Runs on random captures near the edge of every rule, every third with both sides protected; those with another status are left out."""
     made = number = 0
     while made < asked.count:
         words, octets, _ = make_capture("tools %d %d" % (asked.seed, number), WHOLE, both=0.33)
@@ -80,7 +80,7 @@ def random_runs(asked, folder):
         given = write(os.path.join(folder, "random-%d.pcap" % number), octets)
         at = words.index("IN")
         one = normed(asked, folder, "random-%d" % number, given, words[1:at], words[at + 2:])
-        if one.status in (0, 4) and len(one.text.splitlines()) > 2:
+        if one.status in statuses and len(one.text.splitlines()) > 2:
             made += 1
             yield one
         for path in (one.given, one.out, one.report):

@@ -96,6 +96,7 @@ def eve_values(line, _):
     number = None if line["era"] is None else line["era"] + 2**32 * (line["by"] == "second")
     return {"timestamp": line["time"][:26] + "+0000", "src_ip": line["src_ip"], "src_port": line["src_port"], "dest_ip": line["dest_ip"],
             "dest_port": line["dest_port"], "proto": line["proto"] and line["proto"].upper(), "flow_id": number, "norm.record": line["record"],
+            "icmp_type": line["icmp_type"], "icmp_code": line["icmp_code"], "norm.out": line["out"], "norm.given": line["given"],
             "norm.verdict": line["verdict"], "norm.rules": line["rules"], "norm.changes": line["changes"]}
 
 
@@ -119,7 +120,7 @@ def zeek_values(line, origins):
     for one in line["ended"]:
         origins.pop((line["by"], one["era"]), None)
     return {"id.orig_h": orig[0], "id.orig_p": orig[1], "id.resp_h": resp[0], "id.resp_p": resp[1], "is_orig": not turned, "verdict": line["verdict"],
-            "rules": line["rules"], "record": line["record"],
+            "rules": line["rules"], "record": line["record"], "out": line["out"], "ended": line["ended"],
             "uid": "%s%d" % (("S" if line["by"] == "second" else "E", line["era"]) if line["era"] is not None else ("R", line["record"]))}
 
 
@@ -137,11 +138,14 @@ def viewed(asked, folder, one):
 
 
 def whole_view(test, asked, folder, one):
-    """The view of a run, which ends with 0 and has each of its records."""
+    """The view of a run, which ends with 0 and has each of its records, and the eras that its summary counts."""
     octets, status = viewed(asked, folder, one)
     test.same("%s: normview's status" % one.name, 0, status)
-    records = [line for line in map(json.loads, octets.splitlines()) if line["event"] == "record" and line["by"] == "first"]
+    lines = list(map(json.loads, octets.splitlines()))
+    records = [line for line in lines if line["event"] == "record" and line["by"] == "first"]
     test.same("%s: normview's records" % one.name, record_count(one), len(records))
+    counted = [line["eras"]["all"] for line in lines if line["event"] == "summary"]
+    test.same("%s: normview's eras" % one.name, counted, [sum(line["event"] == "era" for line in lines)])
     return octets
 
 
@@ -178,7 +182,7 @@ def talkers(lines):
 
 
 def chosen_runs(asked, folder):
-    return itertools.chain(example_runs(asked, folder), itertools.islice(random_runs(asked, folder), max(1, asked.count // ONE_OF)))
+    return itertools.chain(example_runs(asked, folder), itertools.islice(random_runs(asked, folder, (0,)), max(1, asked.count // ONE_OF)))
 
 
 def test_filters(asked, folder):
@@ -236,8 +240,10 @@ def test_vectors(_, folder):
 
 
 def is_whole_message(event):
+    """Whether Wireshark has an ID of the same ends: of ICMP it is tried with echoes alone."""
     fragment = any(rule.startswith("F_") for rule in event["rules"])
-    return event["proto"] in ("tcp", "udp") and event["verdict"] != "drop" and not fragment
+    echo = event["proto"] == "icmp" and event["icmp_type"] in (0, 8)
+    return (echo or event["proto"] in ("tcp", "udp")) and event["verdict"] != "drop" and not fragment
 
 
 def test_community(asked, folder):

@@ -1,5 +1,5 @@
-"""Makes the three files of a view and its words from a number: those of a run, without or with both sides protected, or of frames that no run wrote; many of
-them are changed in a place."""
+"""Makes the three files of a view and its words from a number: those of a run, without or with both sides protected, or of frames that no run
+wrote; many of them are changed in a place."""
 
 import random
 
@@ -12,22 +12,41 @@ from norm_model.packets import INSIDE, OUTSIDE, capture_of, head, icmp, ipv4, re
 from norm_model.report import REASONS, first_line
 from norm_model.rule_names import RULES
 from norm_model.run import run
-from norm_model.view_texts import VERDICTS
+from norm_model.view_lists import SIDES, VERDICTS
 
 EDGES = [0, 1, 2, 255, 256, 65535, 65536, 2**31, 2**32 - 1]
 
 
 # Words
 
+HOSTS = ["10.0.0.1", "198.51.100.7", "10.0.0.0/8", "10.0.0.1/31", "198.51.100.0/24", "198.51.100.6/31", "0.0.0.0/0", "128.0.0.0/1", "0.0.0.0",
+         "255.255.255.255/32",
+         "010.000.0.01/08", "10.0.0.2", "192.168.0.0/16"]
+
+ERAS = ["1", "1", "2", "3", "01", "4294967295", "second:1", "second:1", "second:2", "second:3", "second:01"]
+
+
+def list_of(rng, words):
+    """Some of the words, each once, in any order."""
+    return ",".join(rng.sample(words, min(len(words), rng.choice([1, 1, 2, 3, 3, len(words)]))))
+
+
+def option_words(rng, name, value):
+    return ["--%s=%s" % (name, value)] if rng.random() < 0.5 else ["--" + name, value]
+
+
 def choice_words(rng):
-    """Some of the options, each in one of its forms."""
-    words = []
-    if rng.random() < 0.4:
+    """Some of the options, each in one of its forms; a few of them do not go together."""
+    words, choices = [], {"rule": list_of(rng, RULES), "era": rng.choice(ERAS), "only": list_of(rng, VERDICTS), "side": list_of(rng, SIDES),
+                          "host": rng.choice(HOSTS)}
+    table = rng.choice(["records", "records", "eras"]) if rng.random() < 0.25 else None
+    if rng.random() < (0.4 if table is None else 0.03):
         words.append(["--json"])
-    for name, values in (("rule", RULES), ("era", ["1", "1", "2", "3", "01", "4294967295"]), ("only", VERDICTS)):
-        if rng.random() < 0.25:
-            value = rng.choice(values)
-            words.append(["--%s=%s" % (name, value)] if rng.random() < 0.5 else ["--" + name, value])
+    if table is not None:
+        words.append(option_words(rng, "table", table))
+    for name, value in choices.items():
+        if rng.random() < (0.02 if table == "eras" else 0.18):
+            words.append(option_words(rng, name, value))
     rng.shuffle(words)
     return [word for group in words for word in group]
 
@@ -35,18 +54,38 @@ def choice_words(rng):
 # Numbers of an era at both ends of their range, and of as many digits as are read.
 ERA_EDGES = ["0", "1", "4294967295", "4294967296", "18446744073709551616", "0" * 19 + "1", "0" * 20 + "1", ""]
 
+# Addresses and prefixes at the edge of what is read.
+HOST_EDGES = ["10.0.0.1/32", "10.0.0.1/33", "10.0.0.1/0", "10.0.0.1/00", "10.0.0.1/000", "10.0.0.1/", "10.0.0.255", "10.0.0.256", "10.0.0.001",
+              "10.0.0.0001", "10.0.0",
+              "10.0.0.1.1", ".0.0.1", "10.0.0.", "10.0.0.1 ", "10.0.0.1,10.0.0.2", "", "/8", "10.0.0.1/8/8", "10.0.0.1/-1", "a.0.0.1"]
+
+# Lists at the edge of what is read, of the words pass, fix, hold and drop.
+LIST_EDGES = ["pass,fix,hold,drop", "drop,hold,fix,pass", "pass,pass", "pass,fix,pass", "pass,", ",pass", "pass,,fix", ",", "", "pass fix",
+              "pass;fix", "pas", "Pass", "pass,passed"]
+
+SIDE_EDGES = ["in,out,-", "-", "-,-", "in,in", "--", "-,", "neither", "In", "in,-,out"]
+
 
 def edge_words(rng):
-    value = rng.choice(ERA_EDGES)
-    return ["--era=" + value] if rng.random() < 0.5 else ["--era", value]
+    """One option with a value at the edge of what it takes, also with a format."""
+    edges = {"era": [by + number for by in ("", "second:") for number in ERA_EDGES], "host": HOST_EDGES, "only": LIST_EDGES, "side": SIDE_EDGES,
+             "rule": [",".join(RULES), ",".join(RULES + RULES[-1:]), "T_OLD,T_CLASH", "T_OLD,T_OLD"]}
+    name = rng.choice(list(edges))
+    return rng.choice([[], [], ["--json"], ["--table=records"], ["--table", "eras"]]) + option_words(rng, name, rng.choice(edges[name]))
 
 
-BAD_OPTIONS = [["--json=1"], ["--json="], ["--json", "--json"], ["--rule"], ["--rule="], ["--rule", "T_CLASHES"], ["--rule=t_clash"],
-               ["--rule=T_CLASH", "--rule=T_OLD"], ["--era=0"], ["--era", "4294967296"], ["--era=" + "0" * 20 + "1"], ["--era=x"],
-               ["--era=4294967297"], ["--era=18446744073709551615"],
-               ["--era=-1"], ["--era=+1"], ["--era="], ["--only"], ["--only=passed"], ["--only="], ["--only=drop,fix"], ["--only=Drop"],
-               ["--"], ["-"], ["-j"], ["--rul=T_CLASH"], ["--rules=T_CLASH"], ["--hops=30"], ["--help"], ["-h"], ["--version"], [""],
-               ["--only", "drop", "--only", "drop"], ["--era", "1", "--json", "--era=1"]]
+BAD_OPTIONS = [words.split(" ") for words in [
+    "--json=1", "--json=", "--json --json", "--rule", "--rule=", "--rule T_CLASHES", "--rule=t_clash", "--rule=T_CLASH --rule=T_OLD",
+    "--rule=T_CLASH,T_CLASH", "--rule T_CLASH,", "--rule --json", "--era=0", "--era 4294967296", "--era=" + "0" * 20 + "1", "--era=x",
+    "--era=4294967297", "--era=18446744073709551615", "--era=-1", "--era=+1", "--era=", "--era 1 --json --era=1", "--era=1,2", "--era=first:1",
+    "--era=second", "--era=second:", "--era=second:second:1", "--era=Second:1", "--era=:1", "--era=second:0", "--era=second:4294967296",
+    "--only", "--only=passed", "--only=", "--only=Drop", "--only drop --only drop", "--only=drop,drop", "--only=drop,", "--side", "--side=both",
+    "--side=in,in", "--side=", "--side=--", "--host", "--host=", "--host=10.0.0", "--host=10.0.0.0/33", "--host=host",
+    "--host=1.0.0.1 --host=1.0.0.2",
+    "--table", "--table=", "--table=record", "--table=Eras", "--table --json", "--table=eras --table=eras", "--table=records --json",
+    "--json --table eras", "--table=eras --only=drop", "--era=1 --table=eras", "--table=eras --host=10.0.0.1", "--table=eras --side=in",
+    "--rule=T_OLD --table=eras", "--", "-", "-j", "--rul=T_CLASH", "--rules=T_CLASH", "--hops=30", "--help", "-h", "--version", "",
+]] + [["--rule", "T_CLASH, T_OLD"], ["--era=second: 1"], ["--side", ""]]
 
 
 def spoilt_words(rng, words):
@@ -66,21 +105,32 @@ def spoilt_words(rng, words):
 
 # Frames that no run wrote
 
+# Octets of a payload: those whose text is themselves, and those at the edges of these.
+OCTETS = b'aaab"\\ ~\x1f\x7f\x00\xff'
+
+
+def any_payload(rng):
+    """Few octets, or as many as a text has, one less or one more, or many."""
+    octets = rng.choice([b"ab", b"ab", OCTETS])
+    return bytes(rng.choice(octets) for _ in range(rng.choice([rng.randrange(9)] * 6 + [63, 64, 65, 66, 128, 200])))
+
+
 def any_message(rng):
     """A protocol and a message, whole or cut."""
-    octets = bytes(rng.choice(b"aaab") for _ in range(rng.randrange(9)))
+    octets = any_payload(rng)
     kind = rng.randrange(5)
     if kind < 2:
         options = rng.choice([b"", b"", b"\1\1\1\1", b"\2\4\5\xb4", b"\1" * 40])
         flags = rng.choice([2, 16, 18, 24, 17, 4, 0, 255, rng.randrange(256)])
         message = tcp(OUTSIDE, INSIDE, rng.choice([40000, 0, 65535]), 80, rng.choice([1000, 1000, 1001, 0, 2**32 - 1]),
-                      rng.choice(EDGES), flags, octets, options=options, reserved=rng.choice([0, 0, 1, 15]), urgent=rng.choice([0, 0, 9]),
+                      rng.choice(EDGES), flags, octets, options=options, reserved=rng.choice([0, 0, 1, 15]), urgent=rng.choice([0, 0,
+                          9]), window=rng.choice([0, 1, 8192, 65535]),
                       header=rng.choice([None, None, None, None, 0, 4, 5, 6, 15]))
         protocol = TCP
     elif kind == 2:
         protocol, message = UDP, udp(OUTSIDE, INSIDE, 40000, 53, octets, length=rng.choice([None, None, 0, 65535]))
     elif kind == 3:
-        protocol, message = ICMP, icmp(rng.choice([0, 3, 8]), 0, two(1) + two(1) + octets)
+        protocol, message = ICMP, icmp(rng.choice([0, 3, 8, 255]), rng.choice([0, 0, 1, 255]), two(1) + two(1) + octets)
     else:
         protocol, message = rng.choice([0, 2, 47, 255, TCP, UDP]), octets
     ends = {TCP: [19, 20, 24], UDP: [7, 8]}.get(protocol, [7, 8])
@@ -104,7 +154,7 @@ def any_frame(rng, link):
     if rng.random() < 0.03:
         return bytes(rng.randrange(256) for _ in range(rng.randrange(30)))
     packet = any_packet(rng)
-    before = bytes(12) + rng.choice([b"\x08\0"] * 9 + [b"\x08\x06", b"\x86\xdd"]) if link == ETHERNET else b""
+    before = bytes(12) + rng.choice([b"\x08\0"] * 9 + [b"\x08\x06", b"\x86\xdd", b"\x81\0", b"\0\0", b"\xff\xff"]) if link == ETHERNET else b""
     return (before + packet)[:rng.choice([None] * 9 + [0, 13, 14, 33, 34, 54])]
 
 
@@ -122,11 +172,17 @@ def changed_octets(rng, frame):
     return frame
 
 
+def some_offset(rng, count):
+    """One of the offsets of these octets, their ends, or where a text of 64 octets ends."""
+    any_of_them = rng.randrange(count + 1)
+    return max(0, min(count, rng.choice([any_of_them, any_of_them, 0, count, 64, 65, count - 64])))
+
+
 def moved_segment(rng):
     """A segment, and one that has some of its octets, with some of them changed."""
-    count = rng.randrange(1, 12)
-    octets = bytes(rng.choice(b"ab") for _ in range(count))
-    front, end = rng.randrange(count + 1), rng.randrange(count + 1)
+    octets = any_payload(rng) + b"a"
+    count = len(octets)
+    front, end = some_offset(rng, count), some_offset(rng, count)
     part = bytes(octet ^ (rng.random() < 0.2) for octet in octets[front:end])
     seq, letters = rng.choice([1000, 2**32 - 2]), rng.choice(["PA", "A", "FA", "S"])
     make = lambda text, payload: segment("> %s,5001" % text, payload=payload)  # noqa: E731
@@ -175,7 +231,7 @@ def free_report(rng, count):
     made = rng.choice([0, 0, 0.1, 0.4])
     lines, frames, behind = [first_line(version, both)[:-1]], [], 0
     for number in range(1, count + 1):
-        packets = rng.choice([0, 1, 1, 1, 2, 3])
+        packets = rng.choice([0, 1, 1, 1, 2, 3] * 20 + [12])
         lines.append(free_line(rng, number, packets, version, made))
         frames.append(0 if both else packets)
         for behind in range(behind + 1, behind + 1 + packets) if both else []:

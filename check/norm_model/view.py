@@ -7,55 +7,111 @@ both sides protected the frames are those of the second engine's lines, which fo
 from types import SimpleNamespace
 
 from norm_model.capture import read_head, read_records
+from norm_model.formats import ACK, SYN
 from norm_model.report import first_line, read_end, read_entry
 from norm_model.rule_names import RULES
 from norm_model.run import STATUS, read_input
 from norm_model.view_fields import changes_of, flow_of, length_of, made_change
-from norm_model.view_texts import VERDICTS, era_json, era_text, record_json, record_text, summary_text
-from norm_model.words import read_number, take_option
+from norm_model.view_lists import SIDES, TABLES, VERDICTS, chosen_fields, era_fields, record_fields, stop_fields, summary_fields
+from norm_model.view_texts import PRINTERS, heading
+from norm_model.words import prefix_holds, read_number, read_prefix, take_option
 
 
 class Ended(Exception):
-    """Why a view ends before all was read: the status and the last line."""
+    """Why a view ends before all was read: the status, and the words of the last line."""
 
-    def __init__(self, status, line):
-        Exception.__init__(self, line)
-        self.status, self.line = status, line
+    def __init__(self, status, reason):
+        Exception.__init__(self, reason)
+        self.status, self.reason = status, reason
 
 
 # The words
 
+CHOICES = ("rule", "era", "only", "side", "host")
+
+# The words of a list of each of these options.
+LISTED = {"rule": RULES, "only": VERDICTS, "side": SIDES}
+
+
+def read_list(text, known):
+    """One or more of the known words, each once, or None."""
+    words = text.split(",")
+    return words if len(set(words)) == len(words) and all(word in known for word in words) else None
+
+
+def read_era(text):
+    """The engine and the number of an era, or None."""
+    by, colon, digits = text.rpartition(":")
+    number = read_number(digits, 1, 2**32 - 1)
+    if number is None or by + colon not in ("", "second:"):
+        return None
+    return (by or "first", number)
+
+
+def read_host(text):
+    """A prefix, of an address the one of all its bits, or None."""
+    prefix = read_prefix(text if "/" in text else text + "/32")
+    return None if isinstance(prefix, str) else prefix
+
+
 def read_value(name, text):
     """The value of this option, or None where it is refused."""
-    if name == "era":
-        return read_number(text, 1, 2**32 - 1)
-    return text if text in {"rule": RULES, "only": VERDICTS}[name] else None
+    if name in LISTED:
+        return read_list(text, LISTED[name])
+    if name == "table":
+        return text if text in TABLES else None
+    return read_era(text) if name == "era" else read_host(text)
 
 
-OPTIONS = SimpleNamespace(names=["json", "rule", "era", "only"], marks=["json"], read=read_value)
+OPTIONS = SimpleNamespace(names=["json", "table", *CHOICES], marks=["json"], read=read_value)
 
 
 def read_view_words(words):
     """What is asked, or None where the words are refused."""
-    asked, seen = SimpleNamespace(json=False, rule=None, era=None, only=None), []
+    asked, seen = SimpleNamespace(json=False, table=None, **dict.fromkeys(CHOICES)), []
     while words and words[0].startswith("-"):
         words = take_option(words, OPTIONS, asked, seen)
         if words is None:
             return None
-    if len(words) != 3 or any(word == "" or word.startswith("-") for word in words):
+    if len(words) != 3 or any(word == "" or word.startswith("-") for word in words) or not go_together(asked):
         return None
     asked.names = words
     return asked
 
 
 def has_choice(asked):
-    return (asked.rule, asked.era, asked.only) != (None, None, None)
+    return any(getattr(asked, choice) is not None for choice in CHOICES)
 
 
-def is_chosen(asked, entry):
-    eras = [entry.era, entry.begun] + [ended.era for ended in entry.ended]
-    return (asked.rule is None or asked.rule in entry.rules) and (asked.era is None or asked.era in eras) \
-        and asked.only in (None, entry.verdict)
+def go_together(asked):
+    """One format, and a table of eras has all of them."""
+    return not (asked.table is not None and asked.json) and not (asked.table == "eras" and has_choice(asked))
+
+
+# What is chosen: of each choice some line of the record meets it.
+
+def meets(asked, choice, item):
+    """Whether this line, or its record, meets the choice."""
+    value, entry = getattr(asked, choice), item.entry
+    if choice == "rule":
+        return any(rule in value for rule in entry.rules)
+    if choice == "only":
+        return entry.verdict in value
+    if choice == "era":
+        return value in [(item.by, number) for number in eras_named(entry)]
+    if choice == "side":
+        return item.by == "first" and entry.side in value
+    return item.flow is not None and any(prefix_holds(value, address) for address in (item.flow.src, item.flow.dst))
+
+
+def is_chosen(asked, items):
+    """Whether the record of these lines is chosen."""
+    return all(any(meets(asked, choice, item) for item in items) for choice in CHOICES if getattr(asked, choice) is not None)
+
+
+def eras_named(entry):
+    """The era that the line belongs to, the one that it begins, and those that it ends."""
+    return [number for number in [entry.era, entry.begun] + [ended.era for ended in entry.ended] if number is not None]
 
 
 # The three files
@@ -149,8 +205,8 @@ def open_files(files):
 
 # The items, one for each line
 
-def items_of(run):
-    """The item of each line, as soon as the line is read with its record and its frames. Then all three files are at their end."""
+def records_of(run):
+    """The items of each record, as soon as its last line is read with its frames. Then all three files are at their end."""
     records = 0
     while True:
         line = run.lines.next()
@@ -159,7 +215,7 @@ def items_of(run):
             need_ends(run, records, counts)
             return
         records += 1
-        yield from items_of_record(run, need_entry(run, line, records))
+        yield items_of_record(run, need_entry(run, line, records))
 
 
 def need_entry(run, line, number):
@@ -198,27 +254,29 @@ def need_frames(run, count):
 def items_of_record(run, entry):
     """That of its own line, and with both sides protected those of its frames in the second engine."""
     record = need_record(run, entry.number)
+    first = new_item(run, "first", entry, record, entry.number)
     if not run.both:
-        yield with_frames(run, new_item(run, "first", entry, record), kinds_of(entry))
-        return
-    first = new_item(run, "first", entry, record)
-    yield first
+        return [with_frames(run, first, kinds_of(entry))]
+    items = [first]
     for left in reversed(range(entry.packets)):
         behind = need_behind(run)
         second = with_frames(run, new_item(run, "second", behind, record, entry.number), kinds_behind(entry, left == 0, behind))
         first.written += second.frames
-        yield second
+        items.append(second)
+    return items
 
 
 def time_of(head, record):
     return record.seconds * 10**9 + record.fraction * (1 if head.nano else 1000)
 
 
-def new_item(run, by, entry, record, number=None):
-    """The item of a line of this engine, without frames. `written`: the frames in OUT that this record, or frame of the first engine, led to."""
-    return SimpleNamespace(by=by, number=number or entry.number, entry=entry, time=time_of(run.source.head, record), frames=[], written=[],
-                           flow=flow_of(run.link, record.octets), length=length_of(run.link, record.octets), changes=[],
-                           record=record.octets)
+def new_item(run, by, entry, record, number):
+    """The item of a line of this engine, without frames. `given`: its frames went to the second engine. `before`: how many frames in OUT are before
+    its own. `written`: the frames in OUT that this record, or frame of the first engine, led to."""
+    return SimpleNamespace(by=by, number=number, entry=entry, time=time_of(run.source.head, record), given=run.both and by == "first",
+                           before=run.written.taken,
+                           frames=[], written=[], flow=flow_of(run.link, record.octets), length=length_of(run.link, record.octets), changes=[],
+                           link=run.link, record=record.octets)
 
 
 def with_frames(run, item, kinds):
@@ -270,20 +328,39 @@ def eras_of(run, items):
 def eras_by(run, by, items):
     eras = {}
     for item in items:
-        for number in [item.entry.era, item.entry.begun] + [ended.era for ended in item.entry.ended]:
-            if number is not None:
-                eras.setdefault(number, new_era(by, number))
+        for number in eras_named(item.entry):
+            eras.setdefault(number, new_era(by, number))
         if item.entry.era is not None:
             add_to_era(run, eras[item.entry.era], item)
         if item.entry.begun is not None:
-            eras[item.entry.begun].flow = flow_of(run.link, (item.frames + [item.record])[0])
+            begin_era(run, eras[item.entry.begun], item)
         for ended in item.entry.ended:
-            eras[ended.era].end = ended.reason
+            eras[ended.era].end, eras[ended.era].octets = ended.reason, ended.octets
     return list(eras.values())
 
 
 def new_era(by, number):
-    return SimpleNamespace(by=by, number=number, flow=None, first=0, last=0, records=0, octets=0, end="live", rules=[])
+    nowhere = (None, None)
+    return SimpleNamespace(by=by, number=number, outside=nowhere, inside=nowhere, opened=None, first=0, last=0, records=0, sent=0, octets=None,
+                           end="live", rules=[])
+
+
+def begin_era(run, era, item):
+    """Who the outside host is, and which host began it: by the first frame of the line, or by the record where it has none in OUT."""
+    flow = flow_of(run.link, (item.frames + [item.record])[0])
+    # For the second engine the sides are exchanged.
+    inwards = item.entry.side == ("in" if era.by == "first" else "out")
+    if flow is not None:
+        ends = [(flow.src, flow.sport), (flow.dst, flow.dport)]
+        era.outside, era.inside = ends if inwards else reversed(ends)
+    else:
+        era.outside = era.inside = (None, None)
+    era.opened = ("in" if inwards else "out") if is_opening(flow) else "mid"
+
+
+def is_opening(flow):
+    """A SYN without ACK."""
+    return flow is not None and flow.flags is not None and flow.flags & (SYN | ACK) == SYN
 
 
 def add_to_era(run, era, item):
@@ -292,7 +369,7 @@ def add_to_era(run, era, item):
     era.records += 1
     era.rules += [rule for rule in dict.fromkeys(item.entry.rules) if rule not in era.rules]
     if item.entry.side == "in":
-        era.octets += sum(length_of(run.link, frame) for frame in item.written if has_tcp(run.link, frame))
+        era.sent += sum(length_of(run.link, frame) for frame in item.written if has_tcp(run.link, frame))
 
 
 def has_tcp(link, frame):
@@ -304,14 +381,14 @@ def has_tcp(link, frame):
 
 def view(words, files):
     """The status and the output; `files` are the octets of the three files, None for one that cannot be read."""
-    asked = read_view_words(words)
-    if asked is None:
-        return 2, "stop words\n"
-    lines = []
+    asked, lines = read_view_words(words), []
     try:
+        if asked is None:
+            raise Ended(2, "stop words")
         add_lines(asked, files, lines)
     except Ended as ended:
-        return ended.status, "".join(lines) + ended.line + "\n"
+        last = PRINTERS["json" if "--json" in words else "text"](stop_fields(ended.status, ended.reason))
+        return ended.status, "".join(lines) + last
     return 0, "".join(lines)
 
 
@@ -330,16 +407,27 @@ def read_file(name):
 
 
 def add_lines(asked, files, lines):
+    form = "table" if asked.table is not None else "json" if asked.json else "text"
+    add = lambda fields: lines.append(PRINTERS[form](fields))  # noqa: E731
     run = open_files(files)
-    one_by_one = asked.json or has_choice(asked)
-    items = []
-    for item in items_of(run):
-        items.append(item)
-        if one_by_one and is_chosen(asked, item.entry):
-            lines.append((record_json if asked.json else record_text)(item))
+    if asked.table == "records":
+        lines.append(heading(TABLES["records"]))
+    items, chosen = [], 0
+    for of_record in records_of(run):
+        items += of_record
+        if is_chosen(asked, of_record):
+            chosen += 1
+            for item in of_record if asked.json or has_choice(asked) or asked.table == "records" else []:
+                add(record_fields(item))
+    if asked.table == "records":
+        return
     if has_choice(asked):
+        add(chosen_fields(chosen))
         return
     eras = eras_of(run, items)
-    if not asked.json:
-        lines.append(summary_text(items, eras, run.both))
-    lines += [(era_json if asked.json else era_text)(era) for era in eras]
+    if asked.table == "eras":
+        lines.append(heading(TABLES["eras"]))
+    else:
+        add(summary_fields(items, eras, run.both))
+    for era in eras:
+        add(era_fields(era))

@@ -25,6 +25,8 @@ MADE = ("probe", "datagram")
 
 PROTOCOLS = {ICMP: "icmp", TCP: "tcp", UDP: "udp"}
 
+ARP = 0x0806
+
 
 # The fields of a frame: every octet of it is in one of them, whatever the frame is.
 
@@ -88,15 +90,32 @@ def message_fields(protocol, message):
 
 
 def flow_of(link, frame):
-    """From where to where, and what; None where no IPv4 header can be read."""
+    """From where to where, and what; None where no IPv4 header can be read, and in it each value whose header cannot be read."""
     fields = fields_of(link, frame)
     if "version" not in fields:
         return None
+    kind, code = icmp_of(fields)
     return SimpleNamespace(
         src=fields["source"], dst=fields["destination"], protocol=fields["protocol"],
         sport=fields.get("source_port"), dport=fields.get("destination_port"),
-        flags=fields.get("flags"), seq=fields.get("sequence"), ack=fields.get("acknowledgment"),
+        flags=fields.get("flags"), seq=fields.get("sequence"), ack=fields.get("acknowledgment"), window=fields.get("window"),
+        ident=fields["identification"], offset=fields["fragment_offset"], more=fields["more_fragments"] == 1,
+        kind=kind, code=code,
     )
+
+
+def icmp_of(fields):
+    """Type and code of an ICMP header, which has 8 octets and is in the first fragment alone."""
+    if fields["protocol"] != ICMP or fields["fragment_offset"] != 0 or len(fields["payload"]) < 8:
+        return None, None
+    return fields["payload"][0], fields["payload"][1]
+
+
+def ethertype_of(link, frame):
+    """The type in the header of the link, of a frame of which no IPv4 header can be read; None where it is not there."""
+    if link != ETHERNET or len(frame) < 14 or has_ipv4(link, frame):
+        return None
+    return u16(frame, 12)
 
 
 def length_of(link, frame):
@@ -117,6 +136,10 @@ def protocol_text(protocol):
     return PROTOCOLS.get(protocol, str(protocol))
 
 
+def ethertype_text(kind):
+    return "arp" if kind == ARP else "0x%04x" % kind
+
+
 def value_text(field, value):
     """The text of a field's value, or None where the frame has none."""
     if value is None:
@@ -130,6 +153,11 @@ def value_text(field, value):
     return flags_text(value) if field == "flags" else str(value)
 
 
+def is_decimal(field):
+    """Whether the text of each value of this field is a decimal number."""
+    return field not in (*HEX, *CHECKSUMS, *ADDRESSES, "flags")
+
+
 # What differs
 
 def changes_of(link, record, frame, number):
@@ -140,8 +168,7 @@ def changes_of(link, record, frame, number):
         if field == "payload" and ours[field] != theirs[field]:
             changes.append(payload_change(ours, theirs, number))
         elif ours.get(field) != theirs.get(field):
-            changes.append(SimpleNamespace(frame=number, field=field, before=value_text(field, ours.get(field)),
-                                           after=value_text(field, theirs.get(field))))
+            changes.append(SimpleNamespace(frame=number, field=field, before=ours.get(field), after=theirs.get(field)))
     return changes
 
 
@@ -159,11 +186,12 @@ def cut_in_front(ours, theirs):
 
 
 def payload_change(ours, theirs, number):
+    """The octets of the record that the frame lacks, in front and at the end; those that it has behind the record's end; and those that differ."""
     front = cut_in_front(ours, theirs)
     left, written = ours["payload"][front:], theirs["payload"]
     return SimpleNamespace(
-        frame=number, field="payload", front=front, end=max(0, len(left) - len(written)),
-        longer=max(0, len(written) - len(left)), replaced=runs(left, written, front),
+        frame=number, field="payload", front=ours["payload"][:front], end=left[len(written):], longer=written[len(left):],
+        replaced=runs(left, written, front),
     )
 
 

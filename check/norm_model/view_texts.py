@@ -1,16 +1,92 @@
-"""The lines of a view: records, eras and the summary, as text and as JSON."""
+"""Three printers of a list of fields: a text line, a JSON object and a row of a table.
+
+A field has a name, a value and what a text line has before it (its lead); without a lead it is not in the text. A value has its text, its JSON
+and its cell; the text of one that is absent is None: it is left out with its lead, or shown as `-` (dash).
+"""
 
 import json
 from datetime import datetime, timedelta
+from types import SimpleNamespace
 
 from norm_model.sentences import SENTENCES
-from norm_model.view_fields import MADE, address_text, flags_text, protocol_text
+from norm_model.view_fields import MADE, address_text, ethertype_text, flags_text, is_decimal, protocol_text, value_text
 
-ENDS = ("live", "reset", "evicted", "idle", "reopened")
+# Octets of which a text has no more.
+MOST_QUOTED = 64
 
-VERDICTS = ("pass", "fix", "hold", "drop")
 
-SIDES = ("in", "out", "-")
+# Lists of fields
+
+def field(name, value, lead=None, dash=False):
+    return SimpleNamespace(name=name, value=value, lead=lead, dash=dash)
+
+
+def text_line(fields):
+    """The lead and the text of each field."""
+    texts = ""
+    for one in fields:
+        text = one.value.text if one.value.text is not None or not one.dash else "-"
+        texts += "" if one.lead is None or text is None else one.lead + text
+    return texts + "\n"
+
+
+def json_line(fields):
+    """One object, with its keys in the order of the list."""
+    return json.dumps({one.name: one.value.json for one in fields}, separators=(",", ":")) + "\n"
+
+
+def table_line(fields):
+    return "\t".join(one.value.cell for one in fields if one.name != "event") + "\n"
+
+
+def heading(fields):
+    return "\t".join(one.name for one in fields if one.name != "event") + "\n"
+
+
+PRINTERS = {"text": text_line, "json": json_line, "table": table_line}
+
+
+# Values
+
+def printed(text, value, cell=None):
+    return SimpleNamespace(text=text, json=value, cell=text if cell is None else cell)
+
+
+ABSENT = printed(None, None, "-")
+
+
+def where_there(make, value):
+    return ABSENT if value is None else make(value)
+
+
+def number(value):
+    return where_there(lambda it: printed(str(it), it), value)
+
+
+def word(value):
+    return where_there(lambda it: printed(it, it), value)
+
+
+def address(value):
+    return where_there(lambda it: word(address_text(it)), value)
+
+
+def flags(value):
+    return where_there(lambda it: word(flags_text(it)), value)
+
+
+def protocol(value):
+    return where_there(lambda it: word(protocol_text(it)), value)
+
+
+def ethertype(value):
+    """Of a type without a name the text says that it is one."""
+    kind = None if value is None else ethertype_text(value)
+    return where_there(lambda it: printed("type " + it if it.startswith("0x") else it, it, it), kind)
+
+
+def time(nanoseconds):
+    return where_there(lambda it: word(time_text(it)), nanoseconds)
 
 
 def time_text(nanoseconds):
@@ -19,144 +95,120 @@ def time_text(nanoseconds):
     return (datetime(1970, 1, 1) + timedelta(seconds=seconds)).strftime("%Y-%m-%dT%H:%M:%S") + ".%09dZ" % fraction
 
 
+def mark(value):
+    """A Boolean, of which a text line has the lead alone."""
+    return where_there(lambda it: printed("" if it else None, it, "true" if it else "false"), value)
+
+
+def joined(cells):
+    return ",".join(cells) or "-"
+
+
 def rule_text(rule):
     return "%s (%s)" % (rule, SENTENCES[rule])
 
 
-def end_text(address, port):
-    return address_text(address) + ("" if port is None else ":%d" % port)
+def explained(rules):
+    return printed("".join(" " + rule_text(rule) for rule in rules), rules, joined(rules))
 
 
-def ends_text(flow):
-    if flow is None:
-        return "- > -"
-    return "%s > %s" % (end_text(flow.src, flow.sport), end_text(flow.dst, flow.dport))
+def names(rules):
+    return printed("".join(" " + rule for rule in rules), rules, joined(rules))
 
 
-def marks_text(flow):
-    """The protocol, and of TCP the flags and the numbers."""
-    text = protocol_text(flow.protocol)
-    if flow.flags is None:
-        return text
-    return text + " %s seq %d ack %d" % (flags_text(flow.flags), flow.seq, flow.ack)
+def ended(ends):
+    texts = [" ends era %d %s" % (end.era, end.reason) + ("" if end.octets is None else " octets %d" % end.octets) for end in ends]
+    cells = ["%d:%s" % (end.era, end.reason) + ("" if end.octets is None else ":%d" % end.octets) for end in ends]
+    return printed("".join(texts), [{"era": end.era, "reason": end.reason, "octets": end.octets} for end in ends], joined(cells))
 
 
-def flow_text(flow):
-    return "- > - -" if flow is None else "%s %s" % (ends_text(flow), marks_text(flow))
+def numbers(first, count):
+    """Numbers that follow each other."""
+    if count == 0:
+        return ABSENT
+    return printed(str(first) if count == 1 else "%d-%d" % (first, first + count - 1), list(range(first, first + count)))
 
 
-# A record
+def counts(by_verdict):
+    """`by_verdict`: how many lines have each verdict."""
+    return printed(" ".join("%s %d" % pair for pair in by_verdict.items()), by_verdict)
 
-def made_text(change):
-    return change.field + ("" if change.flow is None else " " + marks_text(change.flow)) + " len %d" % change.length
+
+def rule_counts(rules):
+    """For each rule, in the order in which they are first named: how often lines of each side name it."""
+    lines = ["\nrule %s %d (%s)" % (rule, min(sum(sides.values()), 2**64 - 1), SENTENCES[rule]) for rule, sides in rules.items()]
+    return printed("".join(lines), [{"rule": rule, "in": sides["in"], "out": sides["out"], "neither": sides["-"]} for rule, sides in rules.items()])
+
+
+def era_counts(ends, opened):
+    """How many eras there are, how many of each end, and how many that began in each way."""
+    text = " ".join(["%d" % sum(ends.values())] + ["%s %d" % pair for pair in ends.items()] + ["opened"]
+                    + ["%s %d" % pair for pair in opened.items()])
+    return printed(text, {"all": sum(ends.values()), **ends, **{"opened_" + way: count for way, count in opened.items()}})
+
+
+# The changes of the frames
+
+def changes(found):
+    text = ""
+    for frame in sorted({change.frame for change in found}):
+        text += "; frame %d " % frame + ", ".join(change_text(change) for change in found if change.frame == frame)
+    return printed(text, [change_json(change) for change in found], joined("%d:%s" % (change.frame, change.field) for change in found))
 
 
 def change_text(change):
     if change.field in MADE:
         return made_text(change)
-    if change.field != "payload":
-        return "%s %s > %s" % (change.field, change.before or "-", change.after or "-")
-    text = "payload"
-    for word, number in (("front", change.front), ("end", change.end), ("longer", change.longer)):
-        text += " %s %d" % (word, number) if number else ""
-    return text + "".join(" at %d %s > %s" % (run.at, run.before.hex(), run.after.hex()) for run in change.replaced)
+    if change.field == "payload":
+        return payload_text(change)
+    return "%s %s > %s" % (change.field, value_text(change.field, change.before) or "-", value_text(change.field, change.after) or "-")
 
 
-def changes_text(changes):
-    text = ""
-    for number in sorted({change.frame for change in changes}):
-        text += "; frame %d " % number + ", ".join(change_text(change) for change in changes if change.frame == number)
-    return text
-
-
-def number_text(item):
-    """The record's number; of a line of the second engine behind it the number of the frame that it read."""
-    return str(item.number) if item.by == "first" else "%d/%d" % (item.number, item.entry.number)
-
-
-def record_text(item):
-    entry = item.entry
-    words = [number_text(item), time_text(item.time), entry.side, flow_text(item.flow), "len %d" % item.length, entry.verdict]
-    words += [] if entry.era is None else ["era %d" % entry.era]
-    words += [rule_text(rule) for rule in entry.rules] + ["frames %d" % entry.packets]
-    return " ".join(words) + changes_text(item.changes) + "\n"
-
-
-def json_line(values):
-    return json.dumps(values, sort_keys=True, separators=(",", ":")) + "\n"
-
-
-def ends_values(flow):
+def marks_of(flow):
+    """The protocol, and of TCP the flags and the numbers."""
     if flow is None:
-        return {"src_ip": None, "src_port": None, "dest_ip": None, "dest_port": None}
-    return {"src_ip": address_text(flow.src), "src_port": flow.sport, "dest_ip": address_text(flow.dst), "dest_port": flow.dport}
+        return [field(name, ABSENT) for name in ("proto", "flags", "seq", "ack")]
+    return [field("proto", protocol(flow.protocol), " "), field("flags", flags(flow.flags), " "), field("seq", number(flow.seq), " seq "),
+            field("ack", number(flow.ack), " ack ")]
 
 
-def marks_values(flow):
-    values = {"proto": None, "flags": None, "seq": None, "ack": None}
-    if flow is not None:
-        values["proto"] = protocol_text(flow.protocol)
-    if flow is not None and flow.flags is not None:
-        values.update(flags=flags_text(flow.flags), seq=flow.seq, ack=flow.ack)
-    return values
+def made_text(change):
+    marks = text_line(marks_of(change.flow))[:-1]
+    return change.field + marks + " len %d" % change.length + (", compared with no record" if change.field == "datagram" else "")
 
 
-def change_values(change):
+def payload_text(change):
+    parts = [("front", change.front), ("end", change.end), ("longer", change.longer)]
+    text = "".join(" %s %d %s" % (name, len(octets), octets_text(octets)) for name, octets in parts if octets)
+    return "payload" + text + "".join(" at %d %s > %s" % (run.at, octets_text(run.before), octets_text(run.after)) for run in change.replaced)
+
+
+def octets_text(octets):
+    more = len(octets) - MOST_QUOTED
+    return '"%s"' % quoted(octets) + (" and %d more" % more if more > 0 else "")
+
+
+def quoted(octets):
+    return "".join(quoted_octet(octet) for octet in octets[:MOST_QUOTED])
+
+
+def quoted_octet(octet):
+    if octet in b'"\\':
+        return "\\" + chr(octet)
+    return chr(octet) if 32 <= octet <= 126 else "\\x%02x" % octet
+
+
+def change_json(change):
     if change.field in MADE:
-        return dict(marks_values(change.flow), frame=change.frame, field=change.field, len=change.length)
-    if change.field != "payload":
-        return {"frame": change.frame, "field": change.field, "from": change.before, "to": change.after}
-    replaced = [{"at": run.at, "from": run.before.hex(), "to": run.after.hex()} for run in change.replaced]
-    return {"frame": change.frame, "field": change.field, "front": change.front, "end": change.end, "longer": change.longer,
-            "replaced": replaced}
+        marks = {one.name: one.value.json for one in marks_of(change.flow)}
+        return {"frame": change.frame, "field": change.field, **marks, "length": change.length, "compared": False}
+    if change.field == "payload":
+        replaced = [{"at": run.at, "from": octets_json(run.before), "to": octets_json(run.after)} for run in change.replaced]
+        return {"frame": change.frame, "field": "payload", "front": octets_json(change.front), "end": octets_json(change.end),
+                "longer": octets_json(change.longer), "replaced": replaced}
+    before, after = (value if is_decimal(change.field) else value_text(change.field, value) for value in (change.before, change.after))
+    return {"frame": change.frame, "field": change.field, "from": before, "to": after}
 
 
-def record_json(item):
-    entry = item.entry
-    return json_line(dict(
-        ends_values(item.flow), **marks_values(item.flow), event="record", record=item.number, by=item.by, number=entry.number,
-        time=time_text(item.time), side=None if entry.side == "-" else entry.side, length=item.length,
-        verdict=entry.verdict, rules=entry.rules, era=entry.era, begun=entry.begun,
-        ended=[{"era": ended.era, "reason": ended.reason} for ended in entry.ended],
-        frames=entry.packets, changes=[change_values(change) for change in item.changes],
-    ))
-
-
-# An era
-
-def era_times(era, none):
-    """The times of its first and its last record; `none` twice for an era without a record."""
-    return [time_text(era.first), time_text(era.last)] if era.records else [none, none]
-
-
-def era_text(era):
-    words = ["era %d" % era.number if era.by == "first" else "era second %d" % era.number, ends_text(era.flow), *era_times(era, "-")]
-    return " ".join(words + ["records %d" % era.records, "octets %d" % era.octets, era.end] + era.rules) + "\n"
-
-
-def era_json(era):
-    first, last = era_times(era, None)
-    return json_line(dict(
-        ends_values(era.flow), event="era", era=era.number, by=era.by, first=first, last=last, records=era.records, octets=era.octets, end=era.end, rules=era.rules,
-    ))
-
-
-# The summary
-
-def side_lines(items, by, lead):
-    """How many lines of this engine have each side and verdict."""
-    found = [(item.entry.side, item.entry.verdict) for item in items if item.by == by]
-    counts = {side: "".join(" %s %d" % (verdict, found.count((side, verdict))) for verdict in VERDICTS) for side in SIDES}
-    return "".join(lead + side + counts[side] + "\n" for side in SIDES)
-
-
-def summary_text(items, eras, both):
-    """`items` are those of all lines of the report, `eras` those that are named in it, and `both` says that it is of two engines."""
-    text = "records %d\n" % sum(item.by == "first" for item in items) + side_lines(items, "first", "")
-    text += side_lines(items, "second", "second ") if both else ""
-    text += "frames %d\n" % sum(len(item.frames) for item in items)
-    named = [rule for item in items for rule in item.entry.rules]
-    for rule in dict.fromkeys(named):
-        text += "rule %s %d (%s)\n" % (rule, named.count(rule), SENTENCES[rule])
-    ends = [era.end for era in eras]
-    return text + "eras %d" % len(eras) + "".join(" %s %d" % (end, ends.count(end)) for end in ENDS) + "\n"
+def octets_json(octets):
+    return {"length": len(octets), "hex": octets.hex(), "text": quoted(octets)} if octets else None
