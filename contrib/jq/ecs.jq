@@ -1,17 +1,17 @@
 # A document of the Elastic Common Schema for each line of a record or of the second engine:
 #   normview --json IN OUT REPORT | jq -c -f ecs.jq
 
-# The names in the output of normview.
-def line: select(.event == "record") | {
+def without_nulls: with_entries(select(.value != null));
+
+# The names in the output of normview; where it stopped, so does this filter.
+def line: if .event == "stop" then error("normview: " + .reason) else select(.event == "record") end | {
   time, src_ip, src_port, dest_ip, dest_port, proto, community_id, record, by, side, verdict, rules, length,
-  rest: (del(.event, .time, .src_ip, .src_port, .dest_ip, .dest_port, .proto, .community_id, .rules))
+  rest: (del(.event, .time, .src_ip, .src_port, .dest_ip, .dest_port, .proto, .community_id, .rules) | without_nulls)
 };
 
 # For the second engine the sides are exchanged; a record that was dropped before its side was known, and ARP, have none.
 def direction:
   if .side == null then "unknown" elif (.side == "in") == (.by == "first") then "inbound" else "outbound" end;
-
-def without_nulls: with_entries(select(.value != null));
 
 line | {
   "@timestamp": .time,
