@@ -33,6 +33,14 @@ def python_with_matplotlib():
     return None
 
 
+def begun(name):
+    """A test of this name, which is skipped where no Python has matplotlib, and that Python."""
+    test, python = Test(name), python_with_matplotlib()
+    if python is None:
+        test.skipped.append("%s: not run, since it needs: matplotlib" % name)
+    return test, python
+
+
 def compare_pictures(test, folder, one, name):
     with open(name + ".png", "rb") as file:
         test.same("%s: the PNG" % one.name, b"\x89PNG\r\n\x1a\n", file.read(8))
@@ -62,10 +70,8 @@ def compare_octets(test, folder, python, one, octets):
 
 
 def test_timeline(asked, folder):
-    test = Test("plots/timeline")
-    python = python_with_matplotlib()
+    test, python = begun("plots/timeline")
     if python is None:
-        test.skipped.append("%s: not run, since it needs: matplotlib" % test.name)
         return test
     name = os.path.join(folder, "picture")
     view = [asked.normview, "--json"]
@@ -93,10 +99,8 @@ FATES_BY_HAND = [
 
 
 def test_fates(asked, folder):
-    test = Test("plots/timeline: fates of octets")
-    python = python_with_matplotlib()
+    test, python = begun("plots/timeline: fates of octets")
     if python is None:
-        test.skipped.append("%s: not run, since it needs: matplotlib" % test.name)
         return test
     for name, packets, wanted in FATES_BY_HAND:
         one = normed(asked, folder, "hand", write(os.path.join(folder, "hand.pcap"), capture_of(packets)))
