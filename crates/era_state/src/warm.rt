@@ -118,6 +118,7 @@ impl Warm {
     }
 
     // Changes the era by an outbound segment.
+    #[inline(always)]
     pub(crate) fn send(&mut self, seg: &Seg)
         requires { self.old.acked < 2 ^ 63 }
         ensures stands { (octets : List ℕ) → length octets ≡ seg.now.len → WarmAfter (sent seg.now octets) self.old self.new }
