@@ -65,6 +65,7 @@ impl Retain {
     }
 
     /// Returns the number of touched blocks without an octet.
+    #[inline(always)]
     pub fn need(&self, chain: ChainId, from: u64, len: u32) -> u32
         requires chain_in_range { chain.0 < length self.now.chains }
         requires offsets { from + len ≤ 2 ^ 64 - 1 }
@@ -149,6 +150,7 @@ impl Retain {
     }
 
     /// Returns whether none of the octets differs from the one kept at its offset.
+    #[inline(always)]
     pub fn agrees(&self, chain: ChainId, from: u64, bytes: &[u8]) -> bool
         requires chain_in_range { chain.0 < length self.now.chains }
         requires offsets { from + length bytes.now ≤ 2 ^ 64 - 1 }
