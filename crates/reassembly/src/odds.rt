@@ -22,6 +22,7 @@ fn clashes(store: &Retain, chain: ChainId, piece: &Piece<'_>) -> bool
 
 /// Returns the rule under which a fragment contradicts its datagram, if one holds: by the end of
 /// the datagram, or by an octet.
+#[inline(always)]
 pub(crate) fn odds(
     store: &Retain,
     chain: ChainId,

@@ -23,6 +23,7 @@ impl Assembly {
     ghost use Rattle.wire_base.specs.declared.limits.TheConstants.{MAX_PAYLOAD};
 
     // Takes a fragment that no rule drops, in the slot of its datagram.
+    #[inline(always)]
     fn accept(
         &mut self,
         slot: Slot,
@@ -61,6 +62,7 @@ impl Assembly {
     }
 
     // Takes a fragment of a datagram with held fragments.
+    #[inline(always)]
     fn join(&mut self, slot: Slot, piece: &Piece<'_>, buf: &mut [u8]) -> Offered
         requires inside { IsIn self.old.table.entries slot }
         requires keyed { Wherever self.old.table.entries slot (λ e. e.key ≡ (fragment_of piece.now).id) }
@@ -91,6 +93,7 @@ impl Assembly {
     }
 
     // Takes the first fragment of a datagram.
+    #[inline(always)]
     fn begin(
         &mut self,
         now: u32,

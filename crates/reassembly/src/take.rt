@@ -10,6 +10,7 @@ use crate::progress::Progress;
 use retain_store::{ChainId, Retain};
 
 /// Adds the octets of a fragment to those of its datagram, and returns the new state.
+#[inline(always)]
 pub(crate) fn take(
     store: &mut Retain,
     chain: ChainId,
