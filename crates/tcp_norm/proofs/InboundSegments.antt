@@ -47,9 +47,10 @@ use Rattle.tcp_norm.specs.declared.flow.Flow.{Flow}
 use Rattle.tcp_norm.specs.declared.arrival.Arrival.{Arrival}
 use Rattle.tcp_norm.specs.Live.{Live}
 use Rattle.tcp_norm.specs.declared.state.TcpNorm.{TcpNorm}
+use Rattle.tcp_norm.specs.declared.brief.Brief.{Brief}
 use Rattle.tcp_norm.specs.declared.ruling.Ruling.{Ruling}
 use Rattle.tcp_norm.specs.declared.ruling.Taking.{Taking}
-use Rattle.tcp_norm.specs.Rulings.{Decides, DecidesIn, IsCounted, IsFound, IsHeld, IsJudged, IsLiveIn, IsRuling}
+use Rattle.tcp_norm.specs.Rulings.{Decides, DecidesIn, IsCounted, IsFound, IsHeld, IsJudged, IsLiveIn, IsRuling, IsSaid, Judges, JudgesBy}
 use Rattle.tcp_norm.specs.Standing.{StandsFor}
 use Rattle.tcp_norm.proofs.StreamRules.{OfStream, stream_dropped, stream_begins_none, stream_ends_none, not_true, dropped_is}
 use Rattle.tcp_norm.proofs.EraWrites.{fixed_or_passed, no_note}
@@ -310,16 +311,20 @@ probe_is settings d packet link head hops ip probe same side is fields raises =
 -- What holds of an inbound segment of a live era.
 
 -- what is decided of the value in a slot is decided of a live era of the segment's connection
-pub decides_in : (a : Arrival) (old new : TcpNorm) (slot : Slot) (flow : Flow) (r : Ruling) (taking : Option Taking) (live : IsLiveIn old a slot) → table.Wherever old.table.entries slot (λ e. flow ≡ e.value)
+pub decides_in : (a : Arrival) (old new : TcpNorm) (slot : Slot) (flow : Flow) (brief : Brief) (filled r : Ruling) (taking : Option Taking) (live : IsLiveIn old a slot) → IsSaid brief filled r → table.Wherever old.table.entries slot (λ e. flow ≡ e.value)
     → All (λ e. e.slot.0 < old.table.max) old.table.entries → AllPairs (λ e f. e.slot ≢ f.slot) old.table.entries → AllPairs (λ e f. e.key ≢ f.key) old.table.entries
-    → (IsFound old a (record { key = live.key; slot = slot; flow = flow }) → Decides a old new (record { key = live.key; slot = slot; flow = flow }) r taking) → DecidesIn a old new slot r taking
-decides_in a old new slot flow r taking live was below slots keys decides =
+    → (IsFound old a (record { key = live.key; slot = slot; flow = flow }) → Decides a old new (record { key = live.key; slot = slot; flow = flow }) r taking) → DecidesIn a old new slot brief filled taking
+decides_in a old new slot flow brief filled r taking live said was below slots keys decides =
     let here : Live = record { key = live.key; slot = slot; flow = flow } in
     let found : IsFound old a here = record {
       held = record { inside = live.inside; entry = λ k x lt same. sym (was k x lt same); keyed = live.of_key; below = below; slots_apart = slots; keys_apart = keys };
       keyed = live.keyed;
     } in
-    record { key = live.key; flow = flow; found = found; decides = decides found }
+    record { r = r; said = said; key = live.key; flow = flow; found = found; decides = decides found }
+
+-- a ruling that is said in brief, or filled in, is right
+pub says : (a : Arrival) (old new : TcpNorm) (brief : Brief) (filled r : Ruling) → IsSaid brief filled r → Judges a old new r → JudgesBy a old new brief filled
+says a old new brief filled r said judges = record { ruling = r; said = said; judges = judges }
 
 -- the ruling is that of the rule table, and the datagram is counted
 pub judged : (settings : PlainSettings) (calls : List Call) (d : Datagram) (a : Arrival) (old new : TcpNorm) (r : Ruling) → IsRuling settings (view_of settings calls d) d a old.scratch.items r

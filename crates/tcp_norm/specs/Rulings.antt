@@ -19,6 +19,8 @@ use Rattle.tcp_norm.specs.declared.arrival.Arrival.{Arrival}
 use Rattle.tcp_norm.specs.declared.state.TcpNorm.{TcpNorm}
 use Rattle.tcp_norm.specs.declared.ruling.Refusal.{Refusal}
 use Rattle.tcp_norm.specs.declared.ruling.Passage.{Passage}
+use Rattle.tcp_norm.specs.declared.brief.Brief.{Brief}
+use Rattle.tcp_norm.specs.declared.brief.Brief.TheVariants.{Refused, Within, Ruled}
 use Rattle.tcp_norm.specs.declared.ruling.Ruling.{Ruling}
 use Rattle.tcp_norm.specs.declared.ruling.Ruling.TheVariants.{Drop, Pass, Ask}
 use Rattle.tcp_norm.specs.declared.ruling.Taking.{Taking}
@@ -47,7 +49,7 @@ use Rattle.wire_base.specs.declared.address.Side.TheVariants.{Inward, Outward}
 use Rattle.wire_base.specs.Sums.{pseudo_sum}
 use Rattle.tcp_codec.specs.Header.{fields_of}
 use Rattle.rule_book.specs.declared.entry.Reason.TheVariants as reasons
-use Rattle.tcp_norm.specs.Steps.{Does}
+use Rattle.tcp_norm.specs.Steps.{Does, continued_in}
 use Rattle.tcp_norm.specs.Calls.{Call, datagram, Outcome, key_at, key_of, segment_in, segments, written_by}
 use Rattle.tcp_norm.specs.Views.{View, view_of}
 use Rattle.tcp_norm.specs.Near.{IsAtMost}
@@ -121,6 +123,26 @@ abbrev pub Judges : Arrival → (old new : TcpNorm) → Ruling → Type 0
 Judges a old new r =
     (settings : PlainSettings) (calls : List Call) (d : Datagram) → StandsFor settings old calls → IsDatagram a.packet.now a.link.now d
     → IsJudged settings calls d a new r
+
+-- a ruling lets a segment pass that continues the era of this number: no rule holds, and nothing follows it
+pub record IsClean (n : ℕ) (r : Ruling) : Type 0 where
+  pub passage : Passage
+  pub is : r ≡ Pass passage
+  pub step : passage.step ≡ continued_in n
+  pub rows : (length passage.rows.items == 0) ≡ true
+  pub probe : passage.probe ≡ None
+
+-- the ruling that is returned in brief, or is the one that was filled in
+abbrev pub IsSaid : Brief → (filled : Ruling) → Ruling → Type 0
+IsSaid Ruled filled r = r ≡ filled
+IsSaid (Refused rule era) filled r = r ≡ Drop (record { rule = rule; era = era; probe = None })
+IsSaid (Within n) filled r = IsClean n r
+
+-- the ruling that is said is right after any calls
+pub record JudgesBy (a : Arrival) (old new : TcpNorm) (brief : Brief) (filled : Ruling) : Type 0 where
+  pub ruling : Ruling
+  pub said : IsSaid brief filled ruling
+  pub judges : Judges a old new ruling
 
 -- the table has the era in its slot
 pub record IsHeld (t : table.Table EraKey Flow) (live : Live) : Type 0 where
@@ -290,8 +312,10 @@ Decides a old new live r taking =
     (settings : PlainSettings) (calls : List Call) (d : Datagram) → StandsFor settings old calls → IsDatagram a.packet.now a.link.now d
     → IsDecision settings calls d a new live r taking
 
--- a decision on the live era in this slot is right
-pub record DecidesIn (a : Arrival) (old new : TcpNorm) (slot : Slot) (r : Ruling) (taking : Option Taking) : Type 0 where
+-- a decision on the live era in this slot is right, with the ruling that is said
+pub record DecidesIn (a : Arrival) (old new : TcpNorm) (slot : Slot) (brief : Brief) (filled : Ruling) (taking : Option Taking) : Type 0 where
+  pub r : Ruling
+  pub said : IsSaid brief filled r
   pub key : FlowKey
   pub flow : Flow
   pub found : IsFound old a (record { key = key; slot = slot; flow = flow })

@@ -6,6 +6,7 @@ mod stream;
 mod syn;
 
 use crate::arrival::Arrival;
+use crate::brief::Brief;
 use crate::key::EraKey;
 use crate::reading::inward_key;
 use crate::ruling::Ruling;
@@ -17,14 +18,15 @@ impl TcpNorm {
     ghost use Rattle.std.specs.Prelude.{◌≡◌, ◌-◌, ◌<◌, ◌≤◌, ◌^◌};
     ghost use Rattle.wire_base.specs.declared.address.Side.TheVariants.{Inward, Outward};
     ghost use Rattle.tcp_norm.specs.Standing.{IsReady};
-    ghost use Rattle.tcp_norm.specs.Rulings.{IsLiveIn, IsOutward, IsShort, Judges};
+    ghost use Rattle.tcp_norm.specs.declared.brief.Brief.TheVariants.{Ruled};
+    ghost use Rattle.tcp_norm.specs.Rulings.{IsLiveIn, IsOutward, IsShort, JudgesBy};
 
     /// Judges a segment and updates the eras.
-    pub(crate) fn judge(&mut self, arrival: &Arrival<'_>, ruling: &mut Ruling)
+    pub(crate) fn judge(&mut self, arrival: &Arrival<'_>, ruling: &mut Ruling) -> Brief
         requires ready { IsReady self.old arrival.now.time }
         requires outward { arrival.now.packet.now.side ≡ Outward → IsOutward arrival.now }
-        ensures judges { Judges arrival.now self.old self.new ruling.new }
-        ensures short { IsShort arrival.now ruling.new }
+        ensures judges { JudgesBy arrival.now self.old self.new result ruling.new }
+        ensures short { result ≡ Ruled → IsShort arrival.now ruling.new }
     {
         match arrival.packet.side {
             Side::Inward => self.judge_inward(arrival, ruling),
@@ -33,11 +35,11 @@ impl TcpNorm {
     }
 
     // Judges an inbound segment and updates the eras.
-    fn judge_inward(&mut self, arrival: &Arrival<'_>, ruling: &mut Ruling)
+    fn judge_inward(&mut self, arrival: &Arrival<'_>, ruling: &mut Ruling) -> Brief
         requires ready { IsReady self.old arrival.now.time }
         requires side { arrival.now.packet.now.side ≡ Inward }
-        ensures judges { Judges arrival.now self.old self.new ruling.new }
-        ensures short { IsShort arrival.now ruling.new }
+        ensures judges { JudgesBy arrival.now self.old self.new result ruling.new }
+        ensures short { result ≡ Ruled → IsShort arrival.now ruling.new }
     {
         let hashed = self.table.hashed(EraKey(inward_key(arrival)));
         match self.table.find_hashed(&hashed) {
@@ -47,11 +49,11 @@ impl TcpNorm {
     }
 
     // Judges a segment of the live era in this slot and updates the era.
-    fn judge_live(&mut self, slot: Slot, arrival: &Arrival<'_>, ruling: &mut Ruling)
+    fn judge_live(&mut self, slot: Slot, arrival: &Arrival<'_>, ruling: &mut Ruling) -> Brief
         requires live { IsLiveIn self.old arrival.now slot }
         requires ready { IsReady self.old arrival.now.time }
-        ensures judges { Judges arrival.now self.old self.new ruling.new }
-        ensures short { IsShort arrival.now ruling.new }
+        ensures judges { JudgesBy arrival.now self.old self.new result ruling.new }
+        ensures short { result ≡ Ruled → IsShort arrival.now ruling.new }
     {
         if arrival.head.flags.syn() {
             return self.judge_syn(slot, arrival, ruling);
@@ -59,9 +61,16 @@ impl TcpNorm {
         if arrival.head.flags.rst() {
             return self.judge_reset(slot, arrival, ruling);
         }
-        match self.decide_stream(slot, arrival, ruling) {
-            None => self.arrive(arrival.time),
-            Some(taking) => self.take_octets(slot, &taking, arrival.time),
+        let decided = self.decide_stream(slot, arrival, ruling);
+        match decided.taking {
+            None => {
+                self.arrive(arrival.time);
+                decided.brief
+            }
+            Some(taking) => {
+                self.take_octets(slot, &taking, arrival.time);
+                decided.brief
+            }
         }
     }
 }

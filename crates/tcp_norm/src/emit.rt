@@ -27,10 +27,11 @@ use tcp_codec::{SegmentParts, mend, write_cleaned};
 use wire_base::{Flags, Side, protocol, pseudo_sum};
 
 impl TcpNorm {
-    ghost use Rattle.std.specs.Prelude.{List, [], ◌∷◌, ◌==◌, false};
+    ghost use Rattle.std.specs.Prelude.{List, [], ◌∷◌, ◌==◌, false, true};
     ghost use Rattle.wire_base.specs.Segments.{Written};
     ghost use Rattle.norm_settings.specs.Settings.{PlainSettings};
     ghost use Rattle.ip_rules.specs.Datagrams.{Datagram, frames_of, IsDatagram};
+    ghost use Rattle.rule_book.specs.declared.rule.Rule.{Rule};
     ghost use Rattle.tcp_norm.specs.Standing.{IsFor};
     ghost use Rattle.tcp_norm.specs.Passing.{given, IsBlank, IsUnsent};
     ghost use Rattle.tcp_norm.specs.Rulings.{Fits, outcome_of, IsCarried, IsSame, IsShort, IsRewritten};
@@ -81,11 +82,25 @@ impl TcpNorm {
             IsRewritten ws d arrival.now self.old.scratch.items passage.now →
             given result arrival.now.packet.now.frame.now out.new ≡ frames_of arrival.now.link.now (packet_by settings ws d d.fixes passage.now.rows.items ∷ []) }
     {
-        let packet = arrival.packet;
         if !passage.rows.is_empty() {
             self.emit_rewritten(passage, arrival, out);
             return false;
         }
+        self.emit_read(arrival, out)
+    }
+
+    // Puts the packet of a segment of which no rule of its connection holds into the empty outbox. Returns true, with nothing in it, only if it is the frame
+    // that was read.
+    #[inline(always)]
+    pub(crate) fn emit_read(&self, arrival: &Arrival<'_>, out: &mut Outbox) -> bool
+        requires empty { IsBlank out.old }
+        ensures unsent { IsUnsent result arrival.now.packet.now.frame.now out.new }
+        ensures one { result ≡ false → length out.new ≡ 1 }
+        ensures frames { (settings : PlainSettings) (d : Datagram) (ws : List Written) (rows : List Rule) → IsFor settings self.now → IsDatagram arrival.now.packet.now arrival.now.link.now d →
+            (length rows == 0) ≡ true →
+            given result arrival.now.packet.now.frame.now out.new ≡ frames_of arrival.now.link.now (packet_by settings ws d d.fixes rows ∷ []) }
+    {
+        let packet = arrival.packet;
         if packet.fixes.is_empty() {
             return true;
         }
@@ -170,6 +185,7 @@ fn put_rewritten(
 }
 
 // Puts the packet of a probe between the ends of an inbound segment, if there is one, into the outbox, behind at most one other.
+#[inline(always)]
 fn put_probe(arrival: &Arrival<'_>, hops: u8, probe: Option<Probe>, out: &mut Outbox)
     requires passes { hops ≤ 254 }
     requires room { length out.old < 2 }

@@ -1,7 +1,8 @@
 //! A datagram: its ruling, its entry and its frames.
 use crate::arrival::Arrival;
+use crate::brief::Brief;
 use crate::emit::put_given;
-use crate::report::report;
+use crate::report::{report, report_dropped, report_within};
 use crate::ruling::Ruling;
 use crate::state::TcpNorm;
 use edge_io::Outbox;
@@ -93,8 +94,19 @@ impl TcpNorm {
             head: seg,
         };
         let mut ruling = Ruling::unset();
-        self.judge(&arrival, &mut ruling);
-        report(&ruling, &arrival, entry);
-        self.emit(&ruling, &arrival, out)
+        match self.judge(&arrival, &mut ruling) {
+            Brief::Refused(rule, era) => {
+                report_dropped(rule, era, 0, entry);
+                false
+            }
+            Brief::Within(number) => {
+                report_within(number, &packet.fixes, entry);
+                self.emit_read(&arrival, out)
+            }
+            Brief::Ruled => {
+                report(&ruling, &arrival, entry);
+                self.emit(&ruling, &arrival, out)
+            }
+        }
     }
 }

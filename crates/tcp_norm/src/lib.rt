@@ -22,6 +22,7 @@
 
 mod arrival;
 mod begin;
+mod brief;
 mod decide;
 mod emit;
 mod expire;

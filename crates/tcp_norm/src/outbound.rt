@@ -8,6 +8,7 @@ ghost use Rattle.ip_rules.specs.Judged.{where_holds};
 ghost use Rattle.rule_book.specs.declared.rule.Rule.TheVariants as rules;
 
 use crate::arrival::Arrival;
+use crate::brief::{Brief, pass_by_step};
 use crate::emit::put_given;
 use crate::key::EraKey;
 use crate::reading::{outward_key, seg_of};
@@ -41,7 +42,8 @@ impl TcpNorm {
     ghost use Rattle.tcp_norm.specs.Standing.{IsAbsent, IsReady, StandsFor};
     ghost use Rattle.tcp_norm.specs.Steps.{IsMade, Makes};
     ghost use Rattle.linked_table.specs.Table.{IsIn, Wherever};
-    ghost use Rattle.tcp_norm.specs.Rulings.{IsLegal, IsOutward, IsShort, Judges};
+    ghost use Rattle.tcp_norm.specs.declared.brief.Brief.TheVariants.{Ruled};
+    ghost use Rattle.tcp_norm.specs.Rulings.{IsLegal, IsOutward, IsShort, JudgesBy};
     ghost use Rattle.wire_base.specs.declared.limits.TheConstants.{MAX_FRAME, MAX_LINK, MAX_PAYLOAD};
 
     /// Handles an outbound datagram: it continues its era, or ends, reopens or begins one.
@@ -77,24 +79,25 @@ impl TcpNorm {
     }
 
     /// Judges an outbound segment and updates the eras.
-    pub(crate) fn judge_outward(&mut self, arrival: &Arrival<'_>, ruling: &mut Ruling)
+    pub(crate) fn judge_outward(&mut self, arrival: &Arrival<'_>, ruling: &mut Ruling) -> Brief
         requires ready { IsReady self.old arrival.now.time }
         requires outward { IsOutward arrival.now }
-        ensures judges { Judges arrival.now self.old self.new ruling.new }
-        ensures short { IsShort arrival.now ruling.new }
+        ensures judges { JudgesBy arrival.now self.old self.new result ruling.new }
+        ensures short { result ≡ Ruled → IsShort arrival.now ruling.new }
     {
         mended_say_the_same();
         let wrong = self.limits.offload & !arrival.head.sum_right;
         let step = self.depart(arrival);
         let rows = summed(wrong);
-        *ruling = Ruling::Pass(Passage {
+        let passage = Passage {
             step,
             rows,
             seq: arrival.head.seq,
             fin: true,
             size: 0,
             probe: None,
-        });
+        };
+        pass_by_step(passage, ruling)
     }
 
     // Updates the eras with an outbound segment.

@@ -6,7 +6,7 @@ ghost use Rattle.ip_rules.specs.Datagrams.{Datagram, IsDatagram, Packet};
 ghost use Rattle.tcp_norm.specs.Passing.{HasRoom, Reports};
 ghost use Rattle.tcp_norm.specs.Rulings.{outcome_of};
 ghost use Rattle.tcp_norm.specs.Outcomes.{verdict_of};
-ghost use Rattle.tcp_norm.specs.Steps.{listed};
+ghost use Rattle.tcp_norm.specs.Steps.{continued_in, listed};
 ghost use Rattle.tcp_norm.specs.Inwards.{passed};
 ghost use Rattle.rule_book.specs.declared.rule.Rule.TheVariants as rules;
 ghost use Rattle.rule_book.specs.declared.entry.Verdict.TheVariants as verdicts;
@@ -100,6 +100,30 @@ pub(crate) fn report_passed(
     entry.era = step.era;
     entry.begun = step.begun;
     add_ended(&mut entry.ended, step.ended);
+}
+
+/// Reports a datagram that continues the era of this number and is sent alone, of which no rule of its connection holds.
+pub(crate) fn report_within(number: u32, fixes: &Fixes, entry: &mut Entry)
+    requires fixes { length fixes.now.items ≤ 6 }
+    ensures { (sent : List Packet) → length sent ≡ 1 → Reports entry.old entry.new (passed (continued_in number) fixes.now.items [] sent) }
+{
+    entry.verdict = verdict_by(fixes);
+    entry.packets = 1;
+    entry.rules = ArrayVec::new();
+    extend(&mut entry.rules, fixes);
+    entry.era = Some(number);
+    entry.begun = None;
+}
+
+// Returns Fix if one of these rules rewrites the datagram.
+fn verdict_by(fixes: &Fixes) -> Verdict
+    ensures { result ≡ verdict_of (fixes.now.items ++ []) }
+{
+    if fixes.is_empty() {
+        Verdict::Pass
+    } else {
+        Verdict::Fix
+    }
 }
 
 /// Returns how many packets are sent for a datagram with this probe behind its own.

@@ -14,21 +14,6 @@ pub(crate) struct Refusal {
     pub(crate) probe: Option<Probe>,
 }
 
-impl Refusal {
-    ghost use Rattle.std.specs.Prelude.{◌≡◌, Some, None};
-
-    /// Returns the refusal of a segment of the era of this number, with no probe.
-    pub(crate) fn silent(rule: Rule, number: u32) -> Refusal
-        ensures { result ≡ record { rule = rule; era = Some number; probe = None } }
-    {
-        Refusal {
-            rule,
-            era: Some(number),
-            probe: None,
-        }
-    }
-}
-
 /// A segment that passes: what it does to the eras, the rules that rewrite it, and, for one that is rewritten, its sequence number, whether its FIN
 /// stays and the number of its octets, which are at the front of the scratch; and the probe that is sent behind it.
 #[derive(Drop)]

@@ -17,11 +17,11 @@ pub struct Place {
     pub evicted: Option<Ended>,
 }
 
-ghost use Rattle.std.specs.Prelude.{◌≡◌, None, Some, false};
+ghost use Rattle.std.specs.Prelude.{◌≡◌, IfSome, None, Some, false};
 ghost use Rattle.rule_book.specs.declared.entry.Reason.TheVariants as reasons;
 
 impl Step {
-    ghost use Rattle.tcp_norm.specs.Steps.{began};
+    ghost use Rattle.tcp_norm.specs.Steps.{began, continued_in};
 
     // Returns the step of a segment that begins an era.
     pub(crate) fn begun(place: Place) -> Step
@@ -44,6 +44,22 @@ impl Step {
             begun: None,
             ended: None,
             full: false,
+        }
+    }
+
+    /// Returns the number of the era that the segment continues, if that is all that it does.
+    #[inline(always)]
+    pub(crate) fn continued(&self) -> Option<u32>
+        ensures { IfSome result (λ number. self.now ≡ continued_in number) }
+    {
+        match self {
+            Step {
+                era: Some(number),
+                begun: None,
+                ended: None,
+                full: false,
+            } => Some(*number),
+            _ => None,
         }
     }
 

@@ -1,9 +1,10 @@
 //! A segment of a connection that has no live era.
 use crate::arrival::Arrival;
+use crate::brief::Brief;
 use crate::key::EraKey;
 use crate::reading::{are_bits, bare_seg, options_change};
 use crate::rows::rows_beside;
-use crate::ruling::{Passage, Question, Refusal, Ruling};
+use crate::ruling::{Passage, Question, Ruling};
 use crate::state::TcpNorm;
 use crate::step::Step;
 use cold_start::{ColdAnswer, cold};
@@ -13,9 +14,10 @@ use rule_book::Rule;
 use tcp_codec::laws::segments_are_read_back;
 
 impl TcpNorm {
-    ghost use Rattle.std.specs.Prelude.{◌<◌};
+    ghost use Rattle.std.specs.Prelude.{◌≡◌, ◌<◌};
     ghost use Rattle.tcp_norm.specs.Standing.{IsAbsent, IsReady};
-    ghost use Rattle.tcp_norm.specs.Rulings.{IsKeyed, IsShort, Judges};
+    ghost use Rattle.tcp_norm.specs.declared.brief.Brief.TheVariants.{Ruled};
+    ghost use Rattle.tcp_norm.specs.Rulings.{IsKeyed, IsShort, JudgesBy};
 
     // Begins an era, asks a host about the segment, or drops it by a rule.
     pub(super) fn judge_cold(
@@ -23,12 +25,12 @@ impl TcpNorm {
         hashed: &Hashed<EraKey>,
         arrival: &Arrival<'_>,
         ruling: &mut Ruling,
-    )
+    ) -> Brief
         requires absent { IsAbsent self.old hashed.now.key.0 }
         requires keyed { IsKeyed arrival.now hashed.now.key.0 }
         requires ready { IsReady self.old arrival.now.time }
-        ensures judges { Judges arrival.now self.old self.new ruling.new }
-        ensures short { IsShort arrival.now ruling.new }
+        ensures judges { JudgesBy arrival.now self.old self.new result ruling.new }
+        ensures short { result ≡ Ruled → IsShort arrival.now ruling.new }
     {
         segments_are_read_back();
         are_bits(&arrival.packet.head, arrival.packet.payload);
@@ -36,26 +38,17 @@ impl TcpNorm {
         match cold(&seg) {
             ColdAnswer::Refuse => {
                 self.arrive(arrival.time);
-                *ruling = Ruling::Drop(Refusal {
-                    rule: Rule::TCold,
-                    era: None,
-                    probe: None,
-                });
+                Brief::Refused(Rule::TCold, None)
             }
             ColdAnswer::Probe(probe) => {
                 self.arrive(arrival.time);
                 let changed = options_change(arrival);
                 let rows = rows_beside(arrival, changed, true);
                 *ruling = Ruling::Ask(Question { rows, probe });
+                Brief::Ruled
             }
             ColdAnswer::Begin(era) => match self.admit(hashed, &Era::Offered(era), arrival.time) {
-                None => {
-                    *ruling = Ruling::Drop(Refusal {
-                        rule: Rule::TFull,
-                        era: None,
-                        probe: None,
-                    });
-                }
+                None => Brief::Refused(Rule::TFull, None),
                 Some(place) => {
                     let changed = options_change(arrival);
                     let rows = rows_beside(arrival, changed, false);
@@ -67,6 +60,7 @@ impl TcpNorm {
                         size: 0,
                         probe: None,
                     });
+                    Brief::Ruled
                 }
             },
         }

@@ -1,8 +1,9 @@
 //! A RST of a live era: T_RST drops it, or it passes and the era's probe follows it.
 use crate::arrival::Arrival;
+use crate::brief::{Brief, pass};
 use crate::reading::{are_bits, bare_seg, options_change};
 use crate::rows::rows_beside;
-use crate::ruling::{Passage, Refusal, Ruling};
+use crate::ruling::{Passage, Ruling};
 use crate::state::TcpNorm;
 use crate::step::Step;
 use era_state::laws::silence_stands;
@@ -15,14 +16,20 @@ impl TcpNorm {
     ghost use Rattle.std.specs.Prelude.{◌≡◌, true};
     ghost use Rattle.wire_base.specs.Tcp as tcp;
     ghost use Rattle.tcp_norm.specs.Standing.{IsReady};
-    ghost use Rattle.tcp_norm.specs.Rulings.{IsLiveIn, IsShort, Judges};
+    ghost use Rattle.tcp_norm.specs.declared.brief.Brief.TheVariants.{Ruled};
+    ghost use Rattle.tcp_norm.specs.Rulings.{IsLiveIn, IsShort, JudgesBy};
 
-    pub(super) fn judge_reset(&mut self, slot: Slot, arrival: &Arrival<'_>, ruling: &mut Ruling)
+    pub(super) fn judge_reset(
+        &mut self,
+        slot: Slot,
+        arrival: &Arrival<'_>,
+        ruling: &mut Ruling,
+    ) -> Brief
         requires live { IsLiveIn self.old arrival.now slot }
         requires rst { tcp.has_rst arrival.now.head.now.flags.0 ≡ true }
         requires ready { IsReady self.old arrival.now.time }
-        ensures judges { Judges arrival.now self.old self.new ruling.new }
-        ensures short { IsShort arrival.now ruling.new }
+        ensures judges { JudgesBy arrival.now self.old self.new result ruling.new }
+        ensures short { result ≡ Ruled → IsShort arrival.now ruling.new }
     {
         segments_are_read_back();
         silence_stands();
@@ -33,22 +40,23 @@ impl TcpNorm {
         let answer = judge_reset(&flow.era, &seg);
         match answer {
             ResetAnswer::Refuse => {
-                *ruling = Ruling::Drop(Refusal::silent(Rule::TRst, number));
                 self.arrive(arrival.time);
+                Brief::Refused(Rule::TRst, Some(number))
             }
             ResetAnswer::Pass(probe) => {
                 let changed = options_change(arrival);
                 let rows = rows_beside(arrival, changed, probe.is_some());
                 let step = Step::within(number);
-                *ruling = Ruling::Pass(Passage {
+                self.touch(slot, arrival.time);
+                let passage = Passage {
                     step,
                     rows,
                     seq: arrival.head.seq,
                     fin: true,
                     size: 0,
                     probe,
-                });
-                self.touch(slot, arrival.time);
+                };
+                pass(number, passage, ruling)
             }
         }
     }

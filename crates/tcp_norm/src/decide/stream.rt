@@ -19,10 +19,11 @@ ghost use Rattle.wire_base.specs.declared.limits.TheConstants.{MAX_PAYLOAD};
 
 use super::early::refuse_early;
 use crate::arrival::Arrival;
+use crate::brief::{Brief, Decided, pass};
 use crate::laws::streams_are_written;
 use crate::reading::{are_bits, options_change, payload_of, seg_of};
 use crate::rows::rows_of;
-use crate::ruling::{Passage, Refusal, Ruling, Taking};
+use crate::ruling::{Passage, Ruling, Taking};
 use crate::spare::{cells_are_counted, chain_is_counted};
 use crate::state::TcpNorm;
 use crate::step::Step;
@@ -34,6 +35,7 @@ use retain_store::{ChainId, Retain};
 use rule_book::Rule;
 
 impl TcpNorm {
+    ghost use Rattle.tcp_norm.specs.declared.brief.Brief.TheVariants.{Ruled};
     ghost use Rattle.tcp_norm.specs.Rulings.{CanTake, DecidesIn, IsLiveIn, IsPlain, IsSame, IsShort};
 
     // Returns what the era takes, if no rule drops the segment. Only the scratch and the hint of the chain change.
@@ -42,13 +44,13 @@ impl TcpNorm {
         slot: Slot,
         arrival: &Arrival<'a>,
         ruling: &mut Ruling,
-    ) -> Option<Taking<'a>>
+    ) -> Decided<'a>
         requires live { IsLiveIn self.old arrival.now slot }
         requires plain { IsPlain arrival.now }
-        ensures takes { IfSome result (λ taking. CanTake self.new.table.entries self.new.store self.new.limits.quota slot taking) }
-        ensures short { IsShort arrival.now ruling.new }
+        ensures takes { IfSome result.taking (λ taking. CanTake self.new.table.entries self.new.store self.new.limits.quota slot taking) }
+        ensures short { result.brief ≡ Ruled → IsShort arrival.now ruling.new }
         ensures same { IsSame self.old self.new }
-        ensures decides { DecidesIn arrival.now self.old self.new slot ruling.new result }
+        ensures decides { DecidesIn arrival.now self.old self.new slot result.brief ruling.new result.taking }
     {
         streams_are_written();
         are_bits(&arrival.packet.head, arrival.packet.payload);
@@ -57,7 +59,10 @@ impl TcpNorm {
         let flow = self.table.at(slot);
         let Some(warm) = warm_of(&flow.era) else {
             refuse_early(flow, arrival, ruling);
-            return None;
+            return Decided {
+                brief: Brief::Ruled,
+                taking: None,
+            };
         };
         let seg = seg_of(arrival);
         let kept = warm.interval(&seg);
@@ -68,23 +73,29 @@ impl TcpNorm {
             kept: &kept,
         };
         if let Some(rule) = refusal(&piece, self.limits.quota) {
-            *ruling = Ruling::Drop(Refusal::silent(rule, flow.number));
-            return None;
+            return Decided {
+                brief: Brief::Refused(rule, Some(flow.number)),
+                taking: None,
+            };
         }
         let own = own_octets(&piece, warm, &seg, payload_of(arrival));
         let clash = clashes(&piece, own, ends);
         let changed = options_change(arrival);
         let rows = rows_of(arrival.head, changed, &kept, clash);
         let as_read = fill_kept(&piece, own, &rows, &mut self.scratch);
-        *ruling = Ruling::Pass(Passage {
-            step: Step::within(flow.number),
+        let number = flow.number;
+        let passage = Passage {
+            step: Step::within(number),
             rows,
             seq: warm.frame_sequence(&seg, &kept),
             fin: kept.fin,
             size: own.len(),
             probe: None,
-        });
-        Some(Taking { kept, own, as_read })
+        };
+        Decided {
+            brief: pass(number, passage, ruling),
+            taking: Some(Taking { kept, own, as_read }),
+        }
     }
 }
 

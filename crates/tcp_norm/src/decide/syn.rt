@@ -1,14 +1,15 @@
 //! A SYN of a live era: T_STATE or T_SYN drops it and a probe is sent, or it passes, in its era or as the first segment of another.
-ghost use Rattle.std.specs.Prelude.{◌≡◌, List, true, false, if◌then◌else◌};
+ghost use Rattle.std.specs.Prelude.{◌≡◌, List};
 ghost use Rattle.wire_base.specs.Segments.{Written};
 ghost use Rattle.era_state.specs.Eras as eras;
 ghost use Rattle.era_state.specs.Quantities.{octets_of};
 ghost use Rattle.era_state.specs.Read.{came};
 ghost use Rattle.era_state.specs.Heard.{syn_answer, is_reopen};
 ghost use Rattle.tcp_norm.specs.Rulings.{refused_by};
-ghost use Rattle.tcp_norm.specs.Steps.{continued_in, reopened_by};
+ghost use Rattle.tcp_norm.specs.Steps.{reopened_by};
 
 use crate::arrival::Arrival;
+use crate::brief::{Brief, pass};
 use crate::reading::{are_bits, bare_seg, inward_key, options_change};
 use crate::rows::rows_beside;
 use crate::ruling::{Passage, Refusal, Ruling};
@@ -25,14 +26,20 @@ impl TcpNorm {
     ghost use Rattle.std.specs.Prelude.{◌≡◌, ◌-◌, ◌<◌, true};
     ghost use Rattle.wire_base.specs.Tcp as tcp;
     ghost use Rattle.tcp_norm.specs.Standing.{IsReady};
-    ghost use Rattle.tcp_norm.specs.Rulings.{IsLiveIn, IsShort, Judges};
+    ghost use Rattle.tcp_norm.specs.declared.brief.Brief.TheVariants.{Ruled};
+    ghost use Rattle.tcp_norm.specs.Rulings.{IsLiveIn, IsShort, JudgesBy};
 
-    pub(super) fn judge_syn(&mut self, slot: Slot, arrival: &Arrival<'_>, ruling: &mut Ruling)
+    pub(super) fn judge_syn(
+        &mut self,
+        slot: Slot,
+        arrival: &Arrival<'_>,
+        ruling: &mut Ruling,
+    ) -> Brief
         requires live { IsLiveIn self.old arrival.now slot }
         requires ready { IsReady self.old arrival.now.time }
         requires syn { tcp.has_syn arrival.now.head.now.flags.0 ≡ true }
-        ensures judges { Judges arrival.now self.old self.new ruling.new }
-        ensures short { IsShort arrival.now ruling.new }
+        ensures judges { JudgesBy arrival.now self.old self.new result ruling.new }
+        ensures short { result ≡ Ruled → IsShort arrival.now ruling.new }
     {
         segments_are_read_back();
         are_bits(&arrival.packet.head, arrival.packet.payload);
@@ -42,25 +49,37 @@ impl TcpNorm {
         let answer = era.judge_syn(&seg);
         if let Some(refusal) = refusal_of(answer, era, flow.number, &seg) {
             *ruling = Ruling::Drop(refusal);
-            return self.arrive(arrival.time);
+            self.arrive(arrival.time);
+            return Brief::Ruled;
         }
         let changed = options_change(arrival);
         let rows = rows_beside(arrival, changed, false);
         let again = is_reopen(answer);
-        let step = step_of(era, flow.number, again, self.begun + 1);
-        *ruling = Ruling::Pass(Passage {
-            step,
+        let number = flow.number;
+        if again {
+            let step = reopening(era, number, self.begun + 1);
+            let key = inward_key(arrival);
+            self.offer(slot, key, &Offered::offer(&seg), arrival.time);
+            *ruling = Ruling::Pass(Passage {
+                step,
+                rows,
+                seq: arrival.head.seq,
+                fin: true,
+                size: 0,
+                probe: None,
+            });
+            return Brief::Ruled;
+        }
+        self.hear(slot, &seg, arrival.time);
+        let passage = Passage {
+            step: Step::within(number),
             rows,
             seq: arrival.head.seq,
             fin: true,
             size: 0,
             probe: None,
-        });
-        if again {
-            let key = inward_key(arrival);
-            return self.offer(slot, key, &Offered::offer(&seg), arrival.time);
-        }
-        self.hear(slot, &seg, arrival.time);
+        };
+        pass(number, passage, ruling)
     }
 }
 
@@ -91,14 +110,10 @@ fn is_reopen(answer: SynAnswer) -> bool
     matches!(answer, SynAnswer::Reopen)
 }
 
-// Returns what a SYN that passes does to this era: it continues it, or ends it where the era of the next number begins.
-fn step_of(era: &Era, number: u32, again: bool, next: u32) -> Step
-    ensures { (ws : List Written) → eras.StandsFor era.now ws → result ≡ (if again then reopened_by number next (octets_of ws) else continued_in number) }
+// Returns what a SYN does that ends this era and begins the one of the next number.
+fn reopening(era: &Era, number: u32, next: u32) -> Step
+    ensures { (ws : List Written) → eras.StandsFor era.now ws → result ≡ reopened_by number next (octets_of ws) }
 {
-    if again {
-        let count = era.octets();
-        Step::reopened(next, number, count)
-    } else {
-        Step::within(number)
-    }
+    let count = era.octets();
+    Step::reopened(next, number, count)
 }

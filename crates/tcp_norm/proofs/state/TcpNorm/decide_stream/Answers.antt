@@ -24,9 +24,7 @@ use Rattle.tcp_norm.specs.declared.key.EraKey.{EraKey}
 use Rattle.tcp_norm.specs.declared.state.TcpNorm.{TcpNorm}
 use Rattle.tcp_norm.specs.Calls.{eras, read, segment_in, segments}
 use Rattle.tcp_norm.specs.Live.{Live}
-use Rattle.tcp_norm.specs.declared.ruling.Refusal.{Refusal}
-use Rattle.tcp_norm.specs.declared.ruling.Ruling.TheVariants.{Drop}
-use Rattle.tcp_norm.specs.Rulings.{IsSame, outcome_of}
+use Rattle.tcp_norm.specs.Rulings.{IsSame}
 use Rattle.tcp_norm.specs.Standing.{HoldsFor, IsTimely}
 use Rattle.tcp_norm.proofs.EraTable.{opened_kept}
 use Rattle.tcp_norm.specs.Views.{view_of}
@@ -147,7 +145,7 @@ pub returns-in_default-clause-decides : goal.returns-in_default-clause-decides
 returns-in_default-clause-decides c =
     let apart = c.entries_are_apart.ensures in
     let key = c.requires.live.key in
-    decides_in c.args.arrival.now c.args.self.now _ c.args.slot c.at-flow.result.now _ _ c.requires.live c.at-flow.ensures apart.slots_below apart.slots_apart apart.keys_apart (λ found settings calls d st is.
+    decides_in c.args.arrival.now c.args.self.now _ c.args.slot c.at-flow.result.now _ _ _ _ c.requires.live refl c.at-flow.ensures apart.slots_below apart.slots_apart apart.keys_apart (λ found settings calls d st is.
     let refused = c.refuse_early.ensures.decides c.args.self.now key c.args.slot found settings calls d st is in
     record { rules = refused.rules; needs = refused.needs })
 
@@ -155,7 +153,7 @@ pub returns-in-Some-refusal-clause-decides : goal.returns-in-Some-refusal-clause
 returns-in-Some-refusal-clause-decides c =
     let apart = c.entries_are_apart.ensures in
     let key = c.requires.live.key in
-    decides_in c.args.arrival.now c.args.self.now _ c.args.slot c.at-flow.result.now _ _ c.requires.live c.at-flow.ensures apart.slots_below apart.slots_apart apart.keys_apart (λ found settings calls d st is.
+    decides_in c.args.arrival.now c.args.self.now _ c.args.slot c.at-flow.result.now _ _ _ _ c.requires.live refl c.at-flow.ensures apart.slots_below apart.slots_apart apart.keys_apart (λ found settings calls d st is.
     let here : Live = record { key = key; slot = c.args.slot; flow = c.at-flow.result.now } in
     let last = c.in-Some.ensures.some in
     let a = c.args.arrival.now in
@@ -194,8 +192,7 @@ returns-in-Some-refusal-clause-decides c =
     ∙ sym (c.in-Some-refusal.ensures.value v.segments w keeps count keptof))) in
     record {
       rules = record {
-        outcome_is = in_dropped settings v d c.in-Some-refusal.rule (Some n) [] drops live.era_is (no_probe_behind settings v d c.in-Some-refusal.rule drops is_live' f)
-            ∙ ap (λ (r : Refusal). outcome_of settings v.segments d (Drop r)) (sym c.silent.ensures);
+        outcome_is = in_dropped settings v d c.in-Some-refusal.rule (Some n) [] drops live.era_is (no_probe_behind settings v d c.in-Some-refusal.rule drops is_live' f);
         carried = found.keyed.side;
       };
       needs = in_unheard settings v d c.in-Some-refusal.rule drops;
@@ -205,7 +202,7 @@ pub returns-clause-decides : goal.returns-clause-decides
 returns-clause-decides c =
     let apart = c.entries_are_apart.ensures in
     let key = c.requires.live.key in
-    decides_in c.args.arrival.now c.args.self.now _ c.args.slot c.at-flow.result.now _ _ c.requires.live c.at-flow.ensures apart.slots_below apart.slots_apart apart.keys_apart (λ found settings calls d st is.
+    decides_in c.args.arrival.now c.args.self.now _ c.args.slot c.at-flow.result.now _ _ _ _ c.requires.live c.pass.ensures.said c.at-flow.ensures apart.slots_below apart.slots_apart apart.keys_apart (λ found settings calls d st is.
     let here : Live = record { key = key; slot = c.args.slot; flow = c.at-flow.result.now } in
     let last = c.in-Some.ensures.some in
     let a = c.args.arrival.now in

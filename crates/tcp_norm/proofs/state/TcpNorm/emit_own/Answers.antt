@@ -1,19 +1,9 @@
-use Rattle.std.proofs.Common.{◌∙◌, sym}
-use Rattle.tcp_norm.proofs.InboundSegments.{head_given, frame_headed}
-use Rattle.tcp_norm.proofs.OutboundSegments.{frame_read}
+use Rattle.std.proofs.Common.{sym}
 use Rattle.tcp_norm.proofs.state.TcpNorm.emit_own.Goals as goal
 
 pub emit_rewritten-requires-clause-some : goal.emit_rewritten-requires-clause-some
 emit_rewritten-requires-clause-some c = sym c.if-not-is_empty.ensures
 
-pub returns-then-is_empty-clause-frames : goal.returns-then-is_empty-clause-frames
-returns-then-is_empty-clause-frames c settings d ws opened is anews =
-    let a = c.args.arrival.now in
-    frame_read settings d ws a.packet.now a.link.now c.args.passage.now.rows.items is (sym c.if-not-is_empty.ensures) (sym c.if-is_empty.ensures)
-
 pub returns-clause-frames : goal.returns-clause-frames
 returns-clause-frames c settings d ws opened is anews =
-    let a = c.args.arrival.now in
-    c.put_anew.ensures
-    ∙ frame_headed settings d ws a.packet.now a.link.now c.args.passage.now.rows.items c.head_sent-head.result is
-    (c.head_sent-head.ensures ∙ head_given settings c.args.self.now.limits.hops a.packet.now a.link.now d (λ k. (opened.limits k).hops) is) (sym c.if-not-is_empty.ensures) (sym c.if-is_empty.ensures)
+    c.emit_read.ensures.frames settings d ws c.args.passage.now.rows.items opened is (sym c.if-not-is_empty.ensures)

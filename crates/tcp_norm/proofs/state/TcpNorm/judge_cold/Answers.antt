@@ -11,12 +11,12 @@ use Rattle.tcp_norm.specs.Steps.{IsStep, Does, began}
 use Rattle.tcp_norm.specs.declared.step.Step.{Step}
 use Rattle.tcp_norm.proofs.Connections.{view_cold, cold_same, asked_same, call_same, cold_probe_same, cold_refused, cold_full, cold_passes, no_call_no_begin, full_is, full_not, step_called, none_came}
 use Rattle.tcp_norm.proofs.BareSegments.{comes_bare, bare_anew, beside_are}
-use Rattle.tcp_norm.proofs.InboundSegments.{in_dropped, in_unheard, in_outcome, in_does, keyed, asks, step_asked, packets_asked, packets_begun, side_is}
+use Rattle.tcp_norm.proofs.InboundSegments.{in_dropped, in_unheard, in_outcome, in_does, keyed, asks, step_asked, packets_asked, packets_begun, side_is, says}
 use Rattle.tcp_norm.proofs.SynsAndResets.{bare_writes, called_marked, cold_probes, begun_probes, cold_stream, bare_carried, rewritten_in}
 use Rattle.tcp_norm.proofs.state.TcpNorm.judge_cold.Goals as goal
 
 pub returns-in-Refuse-clause-judges : goal.returns-in-Refuse-clause-judges
-returns-in-Refuse-clause-judges c settings calls d st is =
+returns-in-Refuse-clause-judges c = says c.args.arrival.now c.args.self.now _ _ _ _ refl (λ settings calls d st is.
     let a = c.args.arrival.now in
     let v = view_of settings calls d in
     let key_is = keyed a.packet.now a.link.now d _ c.requires.keyed.side is c.requires.keyed.key_is in
@@ -26,10 +26,10 @@ returns-in-Refuse-clause-judges c settings calls d st is =
     record {
       stands = (c.arrive.ensures settings calls d (outcome_at settings v d) st (in_unheard settings v d rules.TCold drops)).stands;
       rules = record { outcome_is = in_dropped settings v d rules.TCold None [] drops none refl; carried = c.requires.keyed.side };
-    }
+    })
 
 pub returns-in-None-clause-judges : goal.returns-in-None-clause-judges
-returns-in-None-clause-judges c settings calls d st is =
+returns-in-None-clause-judges c = says c.args.arrival.now c.args.self.now _ _ _ _ refl (λ settings calls d st is.
     let a = c.args.arrival.now in
     let v = view_of settings calls d in
     let key_is = keyed a.packet.now a.link.now d _ c.requires.keyed.side is c.requires.keyed.key_is in
@@ -41,10 +41,10 @@ returns-in-None-clause-judges c settings calls d st is =
     record {
       stands = c.in-None.ensures.none settings calls d (outcome_at settings v d) st (in_unheard settings v d rules.TFull drops);
       rules = record { outcome_is = in_dropped settings v d rules.TFull None [] drops none refl; carried = c.requires.keyed.side };
-    }
+    })
 
 pub returns-in-Probe-clause-judges : goal.returns-in-Probe-clause-judges
-returns-in-Probe-clause-judges c settings calls d st is =
+returns-in-Probe-clause-judges c = says c.args.arrival.now c.args.self.now _ _ _ _ refl (λ settings calls d st is.
     let a = c.args.arrival.now in
     let v = view_of settings calls d in
     let w = segment_in d in
@@ -64,10 +64,10 @@ returns-in-Probe-clause-judges c settings calls d st is =
     record {
       stands = (c.arrive-in-Probe.ensures settings calls d (outcome_at settings v d) st (subst IsUnheard (sym is_it) (record { era = λ written. refl; begun = refl; ended = refl }))).stands;
       rules = record { outcome_is = is_it; carried = c.requires.keyed.side };
-    }
+    })
 
 pub returns-in-Some-clause-judges : goal.returns-in-Some-clause-judges
-returns-in-Some-clause-judges c settings calls d st is =
+returns-in-Some-clause-judges c = says c.args.arrival.now c.args.self.now _ _ _ _ refl (λ settings calls d st is.
     let a = c.args.arrival.now in
     let v = view_of settings calls d in
     let w = segment_in d in
@@ -95,4 +95,4 @@ returns-in-Some-clause-judges c settings calls d st is =
     record {
       stands = c.in-Some.ensures.some settings calls d (came seg) (outcome_at settings v d) st key_is c.in-Begin.ensures.fields (none_came seg) does;
       rules = record { outcome_is = is_it; carried = rewritten_in v.segments d a _ _ side (bare_carried v.segments d a.packet.now a.link.now a.head.now is a.read (bare_anew v.segments d marked)) };
-    }
+    })

@@ -6,11 +6,12 @@ use Rattle.tcp_norm.specs.Views.{view_of}
 use Rattle.tcp_norm.specs.Emits.{packet_by}
 use Rattle.tcp_norm.specs.Inwards.{passed}
 use Rattle.tcp_norm.specs.Outcomes.{outcome_at}
+use Rattle.tcp_norm.proofs.InboundSegments.{says}
 use Rattle.tcp_norm.proofs.OutboundSegments.{out_outcome, out_does, sum_wrong}
 use Rattle.tcp_norm.proofs.state.TcpNorm.judge_outward.Goals as goal
 
 pub returns-clause-judges : goal.returns-clause-judges
-returns-clause-judges c settings calls d st is =
+returns-clause-judges c = says c.args.arrival.now c.args.self.now _ _ _ _ c.pass_by_step.ensures.said (λ settings calls d st is.
     let a = c.args.arrival.now in
     let v = view_of settings calls d in
     let step = c.depart-step.result in
@@ -25,4 +26,4 @@ returns-clause-judges c settings calls d st is =
         outcome_is = out_outcome settings v d step _ side wrong made.is_step ∙ ap (λ rows. passed step d.fixes rows (packet_by settings v.segments d d.fixes rows ∷ [])) (sym c.summed-rows.ensures.rows);
         carried = record { anew = λ inward some. cc (sym side ∙ inward); alone = λ out. refl };
       };
-    }
+    })

@@ -14,19 +14,17 @@ use Rattle.tcp_norm.specs.Steps.{IsStep}
 use Rattle.tcp_norm.specs.Writes.{BringsNone}
 use Rattle.tcp_norm.specs.declared.step.Step.{Step}
 use Rattle.tcp_norm.specs.Live.{Live}
-use Rattle.tcp_norm.specs.Rulings.{IsFound, outcome_of}
-use Rattle.tcp_norm.specs.declared.ruling.Refusal.{Refusal}
-use Rattle.tcp_norm.specs.declared.ruling.Ruling.TheVariants.{Drop}
+use Rattle.tcp_norm.specs.Rulings.{IsFound}
 use Rattle.linked_table.proofs.Lists.{all_weaker}
 use Rattle.tcp_norm.proofs.KeptOctets.{silent_brings_none, silent_stands}
 use Rattle.tcp_norm.proofs.Connections.{step_seen, rst_same, probe_same, reset_dropped, no_call, refused_alone, passed_alone}
 use Rattle.tcp_norm.proofs.BareSegments.{bare_anew, beside_are}
-use Rattle.tcp_norm.proofs.InboundSegments.{in_dropped, in_unheard, in_outcome, packets_reset, judged, of_live, writes_all}
+use Rattle.tcp_norm.proofs.InboundSegments.{in_dropped, in_unheard, in_outcome, packets_reset, judged, of_live, writes_all, says}
 use Rattle.tcp_norm.proofs.SynsAndResets.{bare_writes, reset_stream, reset_probes, rst_marked, no_recall, reset_silent, probes_silent, first_is, bare_carried, rewritten_in}
 use Rattle.tcp_norm.proofs.state.TcpNorm.judge_reset.Goals as goal
 
 pub returns-in-Refuse-clause-judges : goal.returns-in-Refuse-clause-judges
-returns-in-Refuse-clause-judges c settings calls d st is =
+returns-in-Refuse-clause-judges c = says c.args.arrival.now c.args.self.now _ _ _ _ refl (λ settings calls d st is.
     let a = c.args.arrival.now in
     let key = c.requires.live.key in
     let here : Live = record { key = key; slot = c.args.slot; flow = c.flow_at-flow.result.now } in
@@ -45,13 +43,13 @@ returns-in-Refuse-clause-judges c settings calls d st is =
     ∙ ap (λ b. cond b (Some rules.TRst) None) (asked ∙ refused_alone (segments n calls) (came seg) (answered ∙ c.in-Refuse.is)) in
     judged settings calls d a c.args.self.now _ _
     (record {
-      outcome_is = in_dropped settings v d rules.TRst (Some n) [] drops l.live.era_is refl ∙ ap (λ (r : Refusal). outcome_of settings v.segments d (Drop r)) (sym c.silent.ensures);
+      outcome_is = in_dropped settings v d rules.TRst (Some n) [] drops l.live.era_is refl;
       carried = found.keyed.side;
     })
-    (c.arrive.ensures settings calls d _ st (in_unheard settings v d rules.TRst drops))
+    (c.arrive.ensures settings calls d _ st (in_unheard settings v d rules.TRst drops)))
 
 pub returns-in-Pass-clause-judges : goal.returns-in-Pass-clause-judges
-returns-in-Pass-clause-judges c settings calls d st is =
+returns-in-Pass-clause-judges c = says c.args.arrival.now c.args.self.now _ _ _ _ c.pass.ensures.said (λ settings calls d st is.
     let a = c.args.arrival.now in
     let key = c.requires.live.key in
     let here : Live = record { key = key; slot = c.args.slot; flow = c.flow_at-flow.result.now } in
@@ -93,4 +91,4 @@ returns-in-Pass-clause-judges c settings calls d st is =
       none = all_weaker IsSilent BringsNone silent_brings_none written (silent, probes_silent settings d c.in-Pass.probe l.side);
       stands = silent_stands c.silence_stands.ensures here.flow.era (segments n calls) written (silent, probes_silent settings d c.in-Pass.probe l.side) l.stood;
       writes = subst (WritesAll d n written) (sym is_it) (writes_all d n c.within-step.result d.fixes named packets c.within-step.ensures);
-    }))
+    })))
