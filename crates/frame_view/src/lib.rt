@@ -22,10 +22,11 @@ pub mod change;
 pub mod field;
 pub mod flow;
 pub mod laws;
-mod parts;
+pub mod parts;
 mod payload;
 mod reading;
 
 pub use change::{Change, Made, PayloadChange, Replaced, Said, add_changes, add_made};
 pub use field::Field;
 pub use flow::{Flow, IcmpMarks, Ports, TcpMarks, ethertype_of, flow_of, length_of};
+pub use parts::{message_end, message_in, packet_of};

@@ -58,7 +58,7 @@ pub fn packet_of(link: Link, frame: &[u8]) -> Option<&[u8]>
 
 /// Returns where the message of a packet ends: at the total length where that is possible, else
 /// at the end of the packet.
-fn message_end(packet: &[u8]) -> usize
+pub fn message_end(packet: &[u8]) -> usize
     requires { IsReadable packet.now }
     ensures end { result ≡ spec.message_end packet.now }
     ensures behind { ip.header_length packet.now ≤ result }
@@ -72,7 +72,7 @@ fn message_end(packet: &[u8]) -> usize
 }
 
 /// Returns the octets between the header and there.
-fn message_in(packet: &[u8]) -> &[u8]
+pub fn message_in(packet: &[u8]) -> &[u8]
     requires { IsReadable packet.now }
     ensures { result.now ≡ spec.message_in packet.now }
 {
