@@ -1,0 +1,2 @@
+mod Unruled
+mod Numbers

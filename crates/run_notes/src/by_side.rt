@@ -1,0 +1,47 @@
+//! Counts by the side that an entry says.
+ghost use Rattle.std.specs.Prelude.{◌≡◌};
+ghost use Rattle.run_notes.specs.Lines as spec;
+
+use wire_base::Side;
+
+/// A count of records or octets, by the side that an entry says.
+#[derive(Clone, Copy, Debug, Default, PartialEq, Eq)]
+pub struct BySide {
+    pub inward: u64,
+    pub outward: u64,
+    /// The entry says no side.
+    pub neither: u64,
+}
+
+impl BySide {
+    /// Returns that nothing is counted.
+    pub(crate) fn new() -> BySide
+        ensures { result ≡ spec.no_sides }
+    {
+        BySide {
+            inward: 0,
+            outward: 0,
+            neither: 0,
+        }
+    }
+
+    /// Counts so many more on this side.
+    pub(crate) fn add(&mut self, side: Option<Side>, more: u64)
+        ensures { self.new ≡ spec.with_more side more self.old }
+    {
+        match side {
+            Some(Side::Inward) => self.inward = self.inward.saturating_add(more),
+            Some(Side::Outward) => self.outward = self.outward.saturating_add(more),
+            None => self.neither = self.neither.saturating_add(more),
+        }
+    }
+
+    /// Counts one more on this side, where a test holds.
+    pub(crate) fn add_if(&mut self, test: bool, side: Option<Side>)
+        ensures { self.new ≡ spec.with_one_if test side self.old }
+    {
+        if test {
+            self.add(side, 1);
+        }
+    }
+}

@@ -1,0 +1,112 @@
+//! Checksums that a stack leaves to the network card, and others that are wrong.
+ghost use Rattle.std.specs.Prelude.{◌≡◌, ◌||◌, ◌&&◌, not};
+ghost use Rattle.rule_book.specs.Entries.{plain};
+ghost use Rattle.rule_book.specs.declared.rule.Rule.TheVariants.{ISum};
+ghost use Rattle.frame_view.specs.Parts.{IsReadable};
+ghost use Rattle.run_notes.specs.Lines.{names as names_rule};
+ghost use Rattle.run_notes.specs.Sums as spec;
+
+use crate::BySide;
+use crate::line::{is_fragment, names, number_at};
+use frame_view::{Flow, message_in};
+use rule_book::{Entry, Rule};
+use wire_base::{Addr, protocol, pseudo_sum, u16_at, u32_at};
+
+/// Packets, and those whose checksums are not right, by side.
+#[derive(Clone, Copy, Debug, Default, PartialEq, Eq)]
+pub(crate) struct Sums {
+    /// IPv4 packets whose header can be read.
+    pub(crate) packets: u64,
+    /// Those that carry a segment or a UDP datagram and are no fragments.
+    pub(crate) carried: BySide,
+    /// Those of which a checksum or the total length is left to the network card.
+    pub(crate) to_card: BySide,
+    /// Those of which a checksum is wrong otherwise.
+    pub(crate) wrong: BySide,
+}
+
+impl Sums {
+    /// Returns that nothing is counted.
+    pub(crate) fn new() -> Sums
+        ensures { result ≡ spec.no_sums }
+    {
+        Sums {
+            packets: 0,
+            carried: BySide::new(),
+            to_card: BySide::new(),
+            wrong: BySide::new(),
+        }
+    }
+
+    /// Counts the packet of a record.
+    pub(crate) fn count(&mut self, entry: &Entry, flow: Flow, packet: &[u8])
+        requires { IsReadable packet.now }
+        ensures { self.new ≡ spec.with_packet (plain entry.now).side (plain entry.now).rules flow packet.now self.old }
+    {
+        self.packets = self.packets.saturating_add(1);
+        if !is_fragment(flow) {
+            self.count_whole(entry, flow, packet);
+        }
+    }
+
+    // Counts a packet that is no fragment.
+    fn count_whole(&mut self, entry: &Entry, flow: Flow, packet: &[u8])
+        requires { IsReadable packet.now }
+        ensures { self.new ≡ spec.with_whole (plain entry.now).side (plain entry.now).rules flow packet.now self.old }
+    {
+        self.carried.add_if(is_carried(flow), entry.side);
+        let rules = entry.rules.as_slice();
+        let left = is_left(rules, flow, packet);
+        self.to_card.add_if(left, entry.side);
+        self.wrong.add_if(is_wrong(rules, left), entry.side);
+    }
+}
+
+// Returns whether the packet carries a segment or a UDP datagram.
+fn is_carried(flow: Flow) -> bool
+    ensures { result ≡ spec.is_carried flow }
+{
+    flow.protocol == protocol::TCP || flow.protocol == protocol::UDP
+}
+
+// Returns whether a checksum or the total length is left to the card.
+fn is_left(rules: &[Rule], flow: Flow, packet: &[u8]) -> bool
+    requires { IsReadable packet.now }
+    ensures { result ≡ spec.is_left rules.now flow packet.now }
+{
+    let message = names_sum(rules) && flow.ports.is_some() && is_pseudo(packet);
+    let header = names(rules, Rule::ISum) && u16_at(packet, 10) == 0;
+    let total = names(rules, Rule::ILen) && u16_at(packet, 2) == 0;
+    message || header || total
+}
+
+// Returns whether a checksum is wrong otherwise.
+fn is_wrong(rules: &[Rule], left: bool) -> bool
+    ensures { result ≡ ((spec.names_sum rules.now || names_rule rules.now ISum) && not left) }
+{
+    let named = names_sum(rules) || names(rules, Rule::ISum);
+    named && !left
+}
+
+// Returns whether the line says that the checksum of a message is wrong.
+fn names_sum(rules: &[Rule]) -> bool
+    ensures { result ≡ spec.names_sum rules.now }
+{
+    let segment = names(rules, Rule::TSum);
+    let datagram = names(rules, Rule::USum);
+    segment || datagram
+}
+
+// Returns whether the checksum field of a message has the folded sum of the pseudo header.
+fn is_pseudo(packet: &[u8]) -> bool
+    requires { IsReadable packet.now }
+    ensures { result ≡ spec.is_pseudo packet.now }
+{
+    let message = message_in(packet);
+    let place = if packet[9] == protocol::TCP { 16 } else { 6 };
+    let field = u64::from(number_at(message, place));
+    let src = Addr(u32_at(packet, 12));
+    let dst = Addr(u32_at(packet, 16));
+    let sum = u64::from(pseudo_sum(src, dst, packet[9], 0)) + message.len() as u64;
+    field > 0 && field % 65_535 == sum % 65_535
+}

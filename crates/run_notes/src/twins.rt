@@ -1,0 +1,130 @@
+//! Packets that a capture has twice.
+ghost use Rattle.std.specs.Prelude.{◌≡◌, take, drop, OnOk};
+ghost use Rattle.frame_view.specs.Parts.{IsReadable};
+ghost use Rattle.run_notes.specs.Twins as spec;
+ghost use Rattle.run_notes.specs.Counts.{plain_twins};
+
+use crate::line::{is_fragment, octet_at, plus_if};
+use edge_io::NoMemory;
+use frame_view::{Flow, message_end};
+use std::alloc::Global;
+use std::mem;
+use wire_base::protocol;
+
+/// How many packets are in a capture twice, and those of the last four records.
+#[derive(Drop)]
+pub(crate) struct Twins {
+    /// How many packets can be told from the next one of their senders.
+    pub(crate) candidates: u64,
+    /// How many of them equal one of the four records before them.
+    pub(crate) twice: u64,
+    /// The octets of the packets of the last four records, the newest first; none of a record that is
+    /// no candidate.
+    first: Vec<u8>,
+    second: Vec<u8>,
+    third: Vec<u8>,
+    fourth: Vec<u8>,
+}
+
+impl Twins {
+    /// Returns that there is no record yet.
+    pub(crate) fn new(alloc: Global) -> Twins
+        ensures { plain_twins result ≡ spec.no_twins }
+    {
+        Twins {
+            candidates: 0,
+            twice: 0,
+            first: Vec::new(alloc),
+            second: Vec::new(alloc),
+            third: Vec::new(alloc),
+            fourth: Vec::new(alloc),
+        }
+    }
+
+    /// Takes the packet of a record.
+    pub(crate) fn take(&mut self, flow: Flow, packet: &[u8]) -> Result<(), NoMemory>
+        requires { IsReadable packet.now }
+        ensures { OnOk result (plain_twins self.new ≡ spec.with_packet flow packet.now (plain_twins self.old)) }
+    {
+        if !is_candidate(flow) {
+            self.pass();
+            return Ok(());
+        }
+        self.take_candidate(&packet[..message_end(packet)])
+    }
+
+    /// Takes a record that is no candidate.
+    pub(crate) fn pass(&mut self)
+        ensures { plain_twins self.new ≡ spec.with_other (plain_twins self.old) }
+    {
+        self.shift();
+        self.first.clear();
+    }
+
+    // Takes a packet that can be told from the next one.
+    fn take_candidate(&mut self, octets: &[u8]) -> Result<(), NoMemory>
+        ensures { OnOk result (plain_twins self.new ≡ spec.with_candidate octets.now (plain_twins self.old)) }
+    {
+        let found = self.has_twin(octets);
+        self.twice = plus_if(found, self.twice);
+        self.candidates = self.candidates.saturating_add(1);
+        self.pass();
+        self.first.extend_from_slice(octets)?;
+        Ok(())
+    }
+
+    // Returns whether one of the four is a twin of the packet.
+    fn has_twin(&self, octets: &[u8]) -> bool
+        ensures { result ≡ spec.has_twin octets.now (plain_twins self.now).recent }
+    {
+        let first = is_twin(octets, self.first.as_slice());
+        let second = is_twin(octets, self.second.as_slice());
+        let third = is_twin(octets, self.third.as_slice());
+        let fourth = is_twin(octets, self.fourth.as_slice());
+        first || second || third || fourth
+    }
+
+    // Makes the third the fourth, and so on; what the first holds then is out of date.
+    fn shift(&mut self)
+        ensures counts { (self.new.candidates ≡ self.old.candidates) × (self.new.twice ≡ self.old.twice) }
+        ensures second { self.new.second ≡ self.old.first }
+        ensures third { self.new.third ≡ self.old.second }
+        ensures fourth { self.new.fourth ≡ self.old.third }
+    {
+        mem::swap(&mut self.third, &mut self.fourth);
+        mem::swap(&mut self.second, &mut self.third);
+        mem::swap(&mut self.first, &mut self.second);
+    }
+}
+
+// Returns whether a packet can be told from the next one of its sender.
+fn is_candidate(flow: Flow) -> bool
+    ensures { result ≡ spec.is_candidate flow }
+{
+    let known = matches!(
+        flow.protocol,
+        protocol::ICMP | protocol::TCP | protocol::UDP
+    );
+    known && flow.identification != 0 && !is_fragment(flow)
+}
+
+// Returns whether two packets are equal but for the time to live and the header checksum.
+fn is_twin(a: &[u8], b: &[u8]) -> bool
+    ensures { result ≡ spec.is_twin a.now b.now }
+{
+    behind(a) == behind(b) && octet_at(a, 9) == octet_at(b, 9) && front(a) == front(b)
+}
+
+// Returns the octets before the time to live.
+fn front(octets: &[u8]) -> &[u8]
+    ensures { result.now ≡ take 8 octets.now }
+{
+    &octets[..octets.len().min(8)]
+}
+
+// Returns the octets behind the header checksum.
+fn behind(octets: &[u8]) -> &[u8]
+    ensures { result.now ≡ drop 12 octets.now }
+{
+    &octets[octets.len().min(12)..]
+}
