@@ -3,6 +3,8 @@ use Rattle.std.specs.Prelude.{ℕ, Bool, true, false, List, Option, Some, None, 
 use Rattle.rule_book.specs.declared.entry.Ended.{Ended}
 use Rattle.rule_book.specs.declared.rule.Rule.{Rule}
 use Rattle.frame_view.specs.Changes.{PlainChange}
+use Rattle.run_notes.specs.declared.fragments.NumberCount.{NumberCount}
+use Rattle.view_text.specs.declared.part.Numbered.{Numbered}
 use Rattle.view_text.specs.declared.view.RuleCount.{RuleCount}
 
 -- one value: none, a number, whether something holds, a word, octets, octets behind their count, or the numbers of so many frames behind those before
@@ -36,7 +38,7 @@ abbrev pub hidden : (name : List ℕ) → Scalar → PlainPart
 hidden name value = record { name = name; lead = None; dash = false; value = value }
 
 -- a field: one named value, some under a common name, the rules that are named, with or without what they say, the eras that ended, what differs
--- between a record and its frames, or how many lines name each rule
+-- between a record and its frames, how many lines name each rule, or how many are of each type or protocol that is not judged
 pub data PlainField : Type 0 where
   one : PlainPart → PlainField
   group : (name lead : List ℕ) → List PlainPart → PlainField
@@ -44,6 +46,7 @@ pub data PlainField : Type 0 where
   ended : List Ended → PlainField
   changes : List PlainChange → PlainField
   rule_counts : List RuleCount → PlainField
+  numbers : Numbered → List NumberCount → PlainField
 
 -- a value that may be there
 abbrev pub if_there : {T : Type 0} → (T → Scalar) → Option T → Scalar

@@ -7,8 +7,8 @@ use Rattle.rule_book.specs.Text.{reason_word}
 use Rattle.rule_book.specs.declared.entry.Ended.{Ended}
 use Rattle.frame_view.specs.Changes.{PlainChange, in_field, in_made, in_payload}
 use Rattle.view_text.specs.Changes.{change_parts, run_parts}
-use Rattle.view_text.specs.Fields.{PlainField, PlainPart, Scalar, absent, changes, counted, ended, frames, group, hidden, mark, number, number_if, octets, one, rule_counts, rules, word}
-use Rattle.view_text.specs.Runs.{rule_count_parts}
+use Rattle.view_text.specs.Fields.{PlainField, PlainPart, Scalar, absent, changes, counted, ended, frames, group, hidden, mark, number, number_if, numbers, octets, one, rule_counts, rules, word}
+use Rattle.view_text.specs.Runs.{number_parts, numbers_name, rule_count_parts}
 use Rattle.view_text.specs.Text.{frame_number, line_end}
 use Rattle.view_text.specs.Words.{hex_text, most_quoted, quoted_octet}
 
@@ -96,6 +96,7 @@ name_of (rules explained list) = codes "rules"
 name_of (ended list) = codes "ended"
 name_of (changes list) = codes "changes"
 name_of (rule_counts list) = codes "rules"
+name_of (numbers kind list) = numbers_name kind
 
 -- the value of a field
 abbrev pub value_json : PlainField → List ℕ
@@ -105,6 +106,7 @@ value_json (rules explained list) = array (λ rule. string (rule_name rule)) lis
 value_json (ended list) = array (λ era. object (ended_parts era)) list
 value_json (changes list) = array change_json list
 value_json (rule_counts list) = array (λ count. object (rule_count_parts count)) list
+value_json (numbers kind list) = array (λ n. object (number_parts kind n)) list
 
 abbrev pub field_json : PlainField → List ℕ
 field_json field = member (name_of field) (value_json field)

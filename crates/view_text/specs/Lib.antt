@@ -7,6 +7,7 @@ pub mod Changes
 pub mod Records
 pub mod Eras
 pub mod Runs
+pub mod Notes
 pub mod Text
 pub mod Json
 pub mod Table

@@ -13,7 +13,9 @@ use Rattle.view_text.specs.Table.{cell, change_cell, items, tab}
 use Rattle.view_text.specs.Text.{change_text, ended_text, field_text, line_end, parts_text, rule_count_text, rule_text}
 use Rattle.view_text.specs.Times.{time_text}
 use Rattle.view_text.specs.Words.{dotted, flags_text, hex16_text, hex_text, most_quoted, protocol_text, quoted_octet}
-use Rattle.view_text.specs.Runs.{rule_count_parts}
+use Rattle.view_text.specs.Runs.{number_parts, rule_count_parts}
+use Rattle.run_notes.specs.declared.fragments.NumberCount.{NumberCount}
+use Rattle.view_text.specs.declared.part.Numbered.{Numbered}
 use Rattle.view_text.specs.declared.part.Part.{Part}
 use Rattle.view_text.specs.declared.part.Value.{Value}
 use Rattle.view_text.specs.declared.part.Value.TheVariants.{Absent, Number, Mark, Word as AWord, Octets, Counted, Frames}
@@ -135,6 +137,10 @@ run_in true run = object (run_parts run)
 abbrev pub rule_count_in : (json : Bool) → RuleCount → List ℕ
 rule_count_in false count = rule_count_text count
 rule_count_in true count = object (rule_count_parts count)
+
+abbrev pub number_in : (json : Bool) → Numbered → NumberCount → List ℕ
+number_in false kind n = parts_text (number_parts kind n)
+number_in true kind n = object (number_parts kind n)
 
 -- a field of elements
 abbrev pub listed : {T : Type 0} → (name : List ℕ) → (Format → T → List ℕ) → Format → List T → List ℕ

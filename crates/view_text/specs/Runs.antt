@@ -1,8 +1,12 @@
 -- What is said of a whole run.
-use Rattle.std.specs.Prelude.{ℕ, ◌+◌, ◌-◌, ◌^◌, min, List, [], ◌∷◌, ◌++◌, map, Option, Some, None, codes}
+use Rattle.std.specs.Prelude.{ℕ, ◌+◌, ◌-◌, ◌^◌, ◌==◌, min, false, List, [], ◌∷◌, ◌++◌, map, Option, Some, None, codes, if◌then◌else◌}
 use Rattle.rule_book.specs.Rules.{rule_name}
-use Rattle.view_text.specs.Fields.{PlainField, PlainPart, absent, group, hidden, number, one, rule_counts, shown, word}
+use Rattle.view_text.specs.Fields.{PlainField, PlainPart, absent, group, hidden, number, numbers, one, rule_counts, shown, word}
 use Rattle.view_text.specs.Views.{PlainSummary}
+use Rattle.view_text.specs.Words.{hex16_text}
+use Rattle.view_text.specs.declared.part.Numbered.{Numbered}
+use Rattle.view_text.specs.declared.part.Numbered.TheVariants.{Types, Protocols}
+use Rattle.run_notes.specs.declared.fragments.NumberCount.{NumberCount}
 use Rattle.view_text.specs.declared.view.Counts.{Counts}
 use Rattle.view_text.specs.declared.view.EraCounts.{EraCounts}
 use Rattle.view_text.specs.declared.view.RuleCount.{RuleCount}
@@ -68,10 +72,36 @@ first_fields sides =
     ∷ group (codes "neither") (codes "\n- ") (count_parts sides.neither)
     ∷ []
 
+-- the fragments whose datagram was never complete; on a text line only where there are some
+abbrev pub unfinished_lead : ℕ → Option (List ℕ)
+unfinished_lead n = if n == 0 then None else Some (codes "\nunfinished ")
+
+abbrev pub unfinished_part : ℕ → PlainPart
+unfinished_part n = record { name = codes "unfinished"; lead = unfinished_lead n; dash = false; value = number n }
+
+-- how many records have a type or a protocol that is not judged
+abbrev pub number_parts : Numbered → NumberCount → List PlainPart
+number_parts Types n =
+    shown (codes "type") (codes "\ntype ") (word (hex16_text n.number)) ∷ shown (codes "count") (codes " ") (number n.count) ∷ []
+number_parts Protocols n =
+    shown (codes "protocol") (codes "\nprotocol ") (number n.number) ∷ shown (codes "count") (codes " ") (number n.count) ∷ []
+
+abbrev pub numbers_name : Numbered → List ℕ
+numbers_name Types = codes "types"
+numbers_name Protocols = codes "protocols"
+
+-- the number of frames, and of fragments whose datagram was never complete
+abbrev pub frame_parts : (frames unfinished : ℕ) → List PlainPart
+frame_parts frames unfinished = shown (codes "frames") (codes "\nframes ") (number frames) ∷ unfinished_part unfinished ∷ []
+
+-- these, and what was not judged
+abbrev pub frame_fields : PlainSummary → List PlainField
+frame_fields s = map one (frame_parts s.frames s.unfinished) ++ numbers Types s.types ∷ [] ++ numbers Protocols s.protocols ∷ []
+
 -- the fields behind the number of records
 abbrev pub behind_records : PlainSummary → List PlainField
 behind_records s =
-    first_fields s.first ++ second_fields s.second ++ one (shown (codes "frames") (codes "\nframes ") (number s.frames)) ∷ []
+    first_fields s.first ++ second_fields s.second ++ frame_fields s
     ++ rule_counts s.rules ∷ []
     ++ group (codes "eras") (codes "\neras ") (era_parts s.eras) ∷ []
 

@@ -5,7 +5,7 @@ use Rattle.rule_book.specs.Rules.{rule_name}
 use Rattle.rule_book.specs.Text.{ended_word}
 use Rattle.frame_view.specs.Changes.{PlainChange}
 use Rattle.view_text.specs.Changes.{frame_of, name_of}
-use Rattle.view_text.specs.Fields.{PlainField, Scalar, absent, changes, counted, ended, frames, group, mark, number, octets, one, rule_counts, rules, word}
+use Rattle.view_text.specs.Fields.{PlainField, Scalar, absent, changes, counted, ended, frames, group, mark, number, numbers, octets, one, rule_counts, rules, word}
 use Rattle.view_text.specs.Json.{joined}
 use Rattle.view_text.specs.Text.{frames_text, line_end}
 
@@ -40,6 +40,7 @@ cell (rules explained list) = items rule_name list
 cell (ended list) = items ended_word list
 cell (changes list) = items change_cell list
 cell (rule_counts list) = codes "-"
+cell (numbers kind list) = codes "-"
 
 -- the fields behind the first
 abbrev pub behind_event : List PlainField → List PlainField

@@ -7,8 +7,8 @@ use Rattle.rule_book.specs.declared.entry.Ended.{Ended}
 use Rattle.rule_book.specs.declared.rule.Rule.{Rule}
 use Rattle.frame_view.specs.Changes.{PlainChange, in_field, in_made, in_payload}
 use Rattle.view_text.specs.Changes.{change_parts, frame_of, run_parts}
-use Rattle.view_text.specs.Fields.{PlainField, PlainPart, Scalar, absent, changes, counted, ended, frames, group, mark, number, octets, one, rule_counts, rules, word}
-use Rattle.view_text.specs.Runs.{all_sides}
+use Rattle.view_text.specs.Fields.{PlainField, PlainPart, Scalar, absent, changes, counted, ended, frames, group, mark, number, numbers, octets, one, rule_counts, rules, word}
+use Rattle.view_text.specs.Runs.{all_sides, number_parts}
 use Rattle.view_text.specs.Words.{octets_text}
 use Rattle.view_text.specs.declared.view.RuleCount.{RuleCount}
 
@@ -99,6 +99,7 @@ field_text (rules explained list) = flat_map (rule_text explained) list
 field_text (ended list) = flat_map ended_text list
 field_text (changes list) = changes_text 0 list
 field_text (rule_counts list) = flat_map rule_count_text list
+field_text (numbers kind list) = flat_map (λ n. parts_text (number_parts kind n)) list
 
 -- the line
 abbrev pub text_line : List PlainField → List ℕ

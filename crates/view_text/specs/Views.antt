@@ -5,6 +5,7 @@ use Rattle.rule_book.specs.Entries as entries
 use Rattle.rule_book.specs.declared.entry.Reason.{Reason}
 use Rattle.rule_book.specs.declared.rule.Rule.{Rule}
 use Rattle.frame_view.specs.Changes.{PlainChange}
+use Rattle.run_notes.specs.declared.fragments.NumberCount.{NumberCount}
 use Rattle.frame_view.specs.Changes as changes
 use Rattle.frame_view.specs.declared.flow.Flow.{Flow}
 use Rattle.view_text.specs.declared.view.RecordView.{RecordView}
@@ -83,6 +84,9 @@ pub record PlainSummary : Type 0 where
   pub first : Sides
   pub second : Option Sides
   pub frames : ℕ
+  pub unfinished : ℕ
+  pub types : List NumberCount
+  pub protocols : List NumberCount
   pub rules : List RuleCount
   pub eras : EraCounts
 
@@ -93,6 +97,9 @@ plain_summary summary =
       first = summary.first;
       second = summary.second;
       frames = summary.frames;
+      unfinished = summary.unfinished;
+      types = summary.types.now;
+      protocols = summary.protocols.now;
       rules = summary.rules.now;
       eras = summary.eras;
     }

@@ -18,6 +18,7 @@ mod json;
 pub mod laws;
 pub mod line;
 mod list;
+mod notes;
 mod octets;
 mod part;
 mod pieces;
@@ -31,6 +32,7 @@ pub mod view;
 mod word;
 
 pub use line::{
-    chosen_line, era_heading, era_line, record_heading, record_line, stop_line, summary_line,
+    chosen_line, era_heading, era_line, notes_text, record_heading, record_line, stop_line,
+    summary_line,
 };
 pub use view::{Counts, EraCounts, EraView, Format, Opened, RecordView, RuleCount, Sides, Summary};

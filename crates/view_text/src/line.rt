@@ -2,18 +2,23 @@
 ghost use Rattle.std.specs.Prelude.{◌≡◌, IfOk, string_bytes};
 ghost use Rattle.view_text.specs.Eras.{era_fields, era_names};
 ghost use Rattle.view_text.specs.Lines.{line_of};
+ghost use Rattle.view_text.specs.Lines.{notes_text as notes_text_of};
+ghost use Rattle.view_text.specs.Notes.{note_fields};
 ghost use Rattle.view_text.specs.Records.{record_fields, record_names};
 ghost use Rattle.view_text.specs.Runs.{chosen_fields, stop_fields, summary_fields};
 ghost use Rattle.view_text.specs.Table.{heading_of};
 ghost use Rattle.view_text.specs.Views.{plain_era, plain_record, plain_summary};
 
 use crate::eras::{era_lead, put_era};
+use crate::notes::{note_name, put_note};
 use crate::part::{Value, hidden, of_text, shown};
+use crate::pieces::put_text;
 use crate::print::{begun, end_line, put_fields};
 use crate::records::put_record;
 use crate::runs::put_summary;
 use crate::{EraView, Format, RecordView, Summary};
 use edge_io::NoMemory;
+use run_notes::Note;
 use std::alloc::Global;
 
 // The heading of a table of records.
@@ -76,6 +81,29 @@ pub fn chosen_line(alloc: Global, format: Format, records: u64) -> Result<String
 {
     let first = shown("records", "chosen ", Value::Number(records));
     let mut line = begun(alloc, format, "chosen", &first)?;
+    end_line(&mut line, format)?;
+    Ok(line)
+}
+
+/// Returns the lines of notes, in their order.
+pub fn notes_text(alloc: Global, format: Format, notes: &[Note]) -> Result<String, NoMemory>
+    ensures { IfOk result (λ text. string_bytes text ≡ notes_text_of format notes.now) }
+{
+    let mut text = String::new(alloc);
+    for note in notes {
+        let line = note_line(alloc, format, *note)?;
+        put_text(&mut text, line.as_str())?;
+    }
+    Ok(text)
+}
+
+// Returns the line of a note.
+fn note_line(alloc: Global, format: Format, note: Note) -> Result<String, NoMemory>
+    ensures { IfOk result (λ line. string_bytes line ≡ line_of format (note_fields note)) }
+{
+    let first = shown("note", "note ", of_text(note_name(note)));
+    let mut line = begun(alloc, format, "note", &first)?;
+    put_note(&mut line, format, note)?;
     end_line(&mut line, format)?;
     Ok(line)
 }

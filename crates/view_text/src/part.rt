@@ -36,6 +36,15 @@ pub(crate) enum Value<'a> {
     Frames { before: u64, count: u8 },
 }
 
+/// What is counted by number.
+#[derive(Clone, Copy, Debug, PartialEq, Eq)]
+pub(crate) enum Numbered {
+    /// EtherTypes.
+    Types,
+    /// Protocols (RFC 790).
+    Protocols,
+}
+
 /// A named value.
 #[derive(Clone, Copy, Debug)]
 pub(crate) struct Part<'a> {

@@ -1,19 +1,20 @@
 //! The lines of a whole run.
-ghost use Rattle.std.specs.Prelude.{◌≡◌, ◌++◌, map, OnOk, string_bytes};
+ghost use Rattle.std.specs.Prelude.{◌≡◌, ◌++◌, map, option_map, OnOk, string_bytes};
 ghost use Rattle.std.specs.List.{flat_map};
 ghost use Rattle.view_text.specs.Fields as fields;
 ghost use Rattle.view_text.specs.Json.{joined};
-ghost use Rattle.view_text.specs.Plain.{comma_if, field_in, plain_part, rule_count_in};
+ghost use Rattle.view_text.specs.Plain.{comma_if, field_in, number_in, plain_part, rule_count_in};
 ghost use Rattle.view_text.specs.Runs as spec;
 ghost use Rattle.view_text.specs.Text as words;
 ghost use Rattle.view_text.specs.Views.{plain_summary};
 
 use crate::json::put_object;
 use crate::list::put_sentence;
-use crate::part::{Part, Value, hidden, of_text, shown};
+use crate::part::{Numbered, Part, Value, Word, hidden, of_text, shown};
 use crate::pieces::{Put, between, comma_where, put_number, put_text};
-use crate::print::{close_list, open_list, put_fields, put_group};
+use crate::print::{close_list, open_list, put_fields, put_group, put_parts};
 use crate::{Counts, EraCounts, Format, RuleCount, Sides, Summary};
+use run_notes::NumberCount;
 
 // Returns how many lines have each verdict.
 fn count_parts(counts: &Counts) -> [Part<'static>; 4]
@@ -110,6 +111,111 @@ fn put_rule_counts(text: &mut String, format: Format, list: &[RuleCount]) -> Put
     close_list(text, format)
 }
 
+// Returns how many records have a type or a protocol that is not judged.
+fn number_parts(kind: Numbered, number: NumberCount) -> [Part<'static>; 2]
+    ensures { map plain_part result ≡ spec.number_parts kind number }
+{
+    let first = match kind {
+        Numbered::Types => shown("type", "\ntype ", Value::Word(Word::Hex16(number.number))),
+        Numbered::Protocols => shown(
+            "protocol",
+            "\nprotocol ",
+            Value::Number(u64::from(number.number)),
+        ),
+    };
+    [first, shown("count", " ", Value::Number(number.count))]
+}
+
+// Writes how many records have a type or a protocol.
+fn put_number_count(text: &mut String, json: bool, kind: Numbered, number: NumberCount) -> Put
+    ensures { OnOk result (string_bytes text.new ≡ string_bytes text.old ++ number_in json kind number) }
+{
+    if json {
+        return put_object(text, &number_parts(kind, number));
+    }
+    put_parts(text, &number_parts(kind, number))
+}
+
+// Writes how many records have each type or protocol.
+fn put_all_numbers(text: &mut String, json: bool, kind: Numbered, list: &[NumberCount]) -> Put
+    ensures { OnOk result (string_bytes text.new ≡ string_bytes text.old ++ joined (comma_if json) (number_in json kind) list.now) }
+{
+    for (at, number) in list.iter().enumerate() {
+        put_text(text, between(at, comma_where(json)))?;
+        put_number_count(text, json, kind, *number)?;
+    }
+    Ok(())
+}
+
+// Returns the name of the field.
+fn numbers_name(kind: Numbered) -> &'static str
+    ensures { result.now ≡ spec.numbers_name kind }
+{
+    match kind {
+        Numbered::Types => "types",
+        Numbered::Protocols => "protocols",
+    }
+}
+
+// Writes the field of how many records have each type or protocol.
+fn put_numbers(text: &mut String, format: Format, kind: Numbered, list: &[NumberCount]) -> Put
+    ensures { OnOk result (string_bytes text.new ≡ string_bytes text.old ++ field_in format (fields.numbers kind list.now)) }
+{
+    if format == Format::Table {
+        return put_text(text, "\t-");
+    }
+    open_list(text, format, numbers_name(kind), list.is_empty())?;
+    put_all_numbers(text, format == Format::Json, kind, list)?;
+    close_list(text, format)
+}
+
+// Returns the text before the number of such fragments on a text line, where there are some.
+fn unfinished_lead(count: u64) -> Option<&'static str>
+    ensures { option_map (λ lead. lead.now) result ≡ spec.unfinished_lead count }
+{
+    if count == 0 {
+        None
+    } else {
+        Some("\nunfinished ")
+    }
+}
+
+// Returns the number of fragments whose datagram was never complete.
+fn unfinished_part(count: u64) -> Part<'static>
+    ensures { plain_part result ≡ spec.unfinished_part count }
+{
+    Part {
+        name: "unfinished",
+        lead: unfinished_lead(count),
+        dash: false,
+        value: Value::Number(count),
+    }
+}
+
+// Returns the number of frames, and of fragments whose datagram was never complete.
+fn frame_parts(frames: u64, unfinished: u64) -> [Part<'static>; 2]
+    ensures { map plain_part result ≡ spec.frame_parts frames unfinished }
+{
+    [
+        shown("frames", "\nframes ", Value::Number(frames)),
+        unfinished_part(unfinished),
+    ]
+}
+
+// Writes these, and what was not judged.
+fn put_frames(text: &mut String, format: Format, summary: &Summary<'_>) -> Put
+    ensures { OnOk result (string_bytes text.new ≡ string_bytes text.old
+        ++ flat_map (field_in format) (spec.frame_fields (plain_summary summary.now))) }
+{
+    put_fields(
+        text,
+        format,
+        &frame_parts(summary.frames, summary.unfinished),
+    )?;
+    put_numbers(text, format, Numbered::Types, summary.types)?;
+    put_numbers(text, format, Numbered::Protocols, summary.protocols)
+}
+
 // Returns that there are no lines of a second engine.
 fn no_second() -> [Part<'static>; 3]
     ensures { map plain_part result ≡ spec.no_second }
@@ -171,11 +277,7 @@ pub(crate) fn put_summary(text: &mut String, format: Format, summary: &Summary<'
 {
     put_first(text, format, &summary.first)?;
     put_second(text, format, summary.second)?;
-    put_fields(
-        text,
-        format,
-        &[shown("frames", "\nframes ", Value::Number(summary.frames))],
-    )?;
+    put_frames(text, format, summary)?;
     put_rule_counts(text, format, summary.rules)?;
     put_group(text, format, "eras", "\neras ", &era_parts(&summary.eras))
 }

@@ -2,6 +2,7 @@
 
 use frame_view::{Change, Flow};
 use rule_book::{Entry, Reason, Rule};
+use run_notes::NumberCount;
 
 /// The formats in which lines are printed.
 #[derive(Clone, Copy, Debug, PartialEq, Eq)]
@@ -127,6 +128,12 @@ pub struct Summary<'a> {
     pub second: Option<Sides>,
     /// The number of frames that were written.
     pub frames: u64,
+    /// The number of fragments whose datagram was never complete.
+    pub unfinished: u64,
+    /// EtherTypes that are not judged, in the order of first naming.
+    pub types: &'a [NumberCount],
+    /// Protocols that are not judged, in the same order.
+    pub protocols: &'a [NumberCount],
     /// The rules that are named, in the order of first naming.
     pub rules: &'a [RuleCount],
     pub eras: EraCounts,
