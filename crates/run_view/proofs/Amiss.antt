@@ -37,10 +37,12 @@ pub record IsEntryLine (version : ℕ) (second : Bool) (text : List ℕ) (entry 
 
 -- no entry has an empty line
 no_empty : (entry : PlainEntry) → EntryFits entry → [] ≡ entry_text entry → ⊥
-no_empty entry fits is = let long = ap length is ∙ ap length (entry_is_line entry fits).whole ∙ length-append (entry_is_line entry fits).body (10 ∷ []) in omega (arith, long)
+no_empty entry fits is =
+    let long = ap length is ∙ ap length (entry_is_line entry fits).whole ∙ length-append (entry_is_line entry fits).body (10 ∷ []) in omega (arith, long)
 
 -- the line of an entry, by what it has for the entry
-line_told : (version : ℕ) (second : Bool) (text : List ℕ) (entry : PlainEntry) → IsEntryOf version entry → part_by second text ≡ entry_text entry → IsEntryLine version second text entry
+line_told : (version : ℕ) (second : Bool) (text : List ℕ) (entry : PlainEntry) → IsEntryOf version entry → part_by second text ≡ entry_text entry
+    → IsEntryLine version second text entry
 line_told version false text entry fits is = record { is = is; fits = fits }
 line_told version true [] entry fits is = absurd (no_empty entry fits.fits is)
 line_told version true (octet ∷ rest) entry fits is = by (nat_eq octet 47) refl is where
@@ -48,7 +50,8 @@ line_told version true (octet ∷ rest) entry fits is = by (nat_eq octet 47) ref
   by true same is = let mark : octet ≡ 47 = grind (arith, nat_tests) in record { is = (λ i. mark i ∷ is i); fits = fits }
   by false same is = absurd (no_empty entry fits.fits is)
 
-pub part_told : (version : ℕ) (second : Bool) (text part : List ℕ) (entry : PlainEntry) → part ≡ part_by second text → IsEntryOf version entry × (part ≡ entry_text entry) → IsEntryLine version second text entry
+pub part_told : (version : ℕ) (second : Bool) (text part : List ℕ) (entry : PlainEntry) → part ≡ part_by second text
+    → IsEntryOf version entry × (part ≡ entry_text entry) → IsEntryLine version second text entry
 part_told version second text part entry same told = line_told version second text entry told.0 (sym same ∙ told.1)
 
 -- the text is neither that of the next entry nor that of the last line
@@ -57,20 +60,22 @@ pub record IsNone (version : ℕ) (turn : Turn) (text : List ℕ) : Type 0 where
   pub last : turn.second ≡ false → text ≢ last_text (lasts.End turn.done turn.frames)
 
 -- octets whose front line is none that may stand there begin with none
-no_next_in : (version : ℕ) (turn : Turn) (text octets : List ℕ) → turn.done < 2 ^ 32 → turn.frames < 2 ^ 64 → text ≡ front_line 400 octets → IsNone version turn text → IsNoNext version turn octets
+no_next_in : (version : ℕ) (turn : Turn) (text octets : List ℕ) → turn.done < 2 ^ 32 → turn.frames < 2 ^ 64 → text ≡ front_line 400 octets
+    → IsNone version turn text → IsNoNext version turn octets
 no_next_in version turn text octets few few_frames is none =
     record {
       entry = λ entry fits number rest begins. none.entry entry fits number (is ∙ line_front turn.second octets rest entry fits.fits begins);
       last = λ first rest begins. none.last first (is ∙ end_front octets rest turn.done turn.frames few few_frames begins);
     }
 
-no_next_behind : (version : ℕ) (turn : Turn) (text : List ℕ) (left : Option (List ℕ)) → turn.done < 2 ^ 32 → turn.frames < 2 ^ 64 → IfSome left (λ octets. text ≡ front_line 400 octets)
-    → IsNone version turn text → IfSome left (IsNoNext version turn)
+no_next_behind : (version : ℕ) (turn : Turn) (text : List ℕ) (left : Option (List ℕ)) → turn.done < 2 ^ 32 → turn.frames < 2 ^ 64
+    → IfSome left (λ octets. text ≡ front_line 400 octets) → IsNone version turn text → IfSome left (IsNoNext version turn)
 no_next_behind version turn text None few few_frames is none = tt
 no_next_behind version turn text (Some octets) few few_frames is none = no_next_in version turn text octets few few_frames is none
 
 -- the same of the first line
-pub no_first_in : (text : List ℕ) (report : Option (List ℕ)) → IfSome report (λ octets. text ≡ front_line 400 octets) → text ≢ heading Version1 → text ≢ heading Version2 → text ≢ heading Both → IfSome report IsNoFirst
+pub no_first_in : (text : List ℕ) (report : Option (List ℕ)) → IfSome report (λ octets. text ≡ front_line 400 octets) → text ≢ heading Version1
+    → text ≢ heading Version2 → text ≢ heading Both → IfSome report IsNoFirst
 no_first_in text None is one two both = tt
 no_first_in text (Some octets) is one two both = λ form rest begins. other form (is ∙ heading_front octets rest form begins) where
   other : (form : Form) → text ≢ heading form
@@ -79,12 +84,14 @@ no_first_in text (Some octets) is one two both = λ form rest begins. other form
   other Both = both
 
 -- the next entry was told
-told_next : (version : ℕ) (turn : Turn) (text : List ℕ) (left next : Option (List ℕ)) (entry : PlainEntry) → Consumes left next text → IsEntryLine version turn.second text entry → entry.number ≡ turn.done + 1
-    → ToldNext version turn left next entry
-told_next version turn text left next entry took line number = record { taken = subst (Consumes left next) line.is took; fits = line.fits; number = number }
+told_next : (version : ℕ) (turn : Turn) (text : List ℕ) (left next : Option (List ℕ)) (entry : PlainEntry) → Consumes left next text
+    → IsEntryLine version turn.second text entry → entry.number ≡ turn.done + 1 → ToldNext version turn left next entry
+told_next version turn text left next entry took line number =
+    record { taken = subst (Consumes left next) line.is took; fits = line.fits; number = number }
 
 -- the same by other names of the version, of the turn and of the line
-pub told_so : (version other : ℕ) (turn there : Turn) (text line : List ℕ) (left next : Option (List ℕ)) (entry : PlainEntry) → version ≡ other → turn ≡ there → text ≡ line
+pub told_so : (version other : ℕ) (turn there : Turn) (text line : List ℕ) (left next : Option (List ℕ)) (entry : PlainEntry) → version ≡ other
+    → turn ≡ there → text ≡ line
     → Consumes left next line → IsEntryLine version turn.second text entry → entry.number ≡ turn.done + 1 → ToldNext other there left next entry
 told_so version other turn there text line left next entry version_is turn_is text_is took is number =
     let V : ℕ → Type 0 = λ v. ToldNext v there left next entry in
@@ -92,7 +99,8 @@ told_so version other turn there text line left next entry version_is turn_is te
     subst V version_is (subst T turn_is (told_next version turn text left next entry (subst (Consumes left next) (sym text_is) took) is number))
 
 -- so is what is amiss
-pub amiss_so : (version other : ℕ) (turn there : Turn) (text line : List ℕ) (left : Option (List ℕ)) → version ≡ other → turn ≡ there → text ≡ line → turn.done < 2 ^ 32 → turn.frames < 2 ^ 64
+pub amiss_so : (version other : ℕ) (turn there : Turn) (text line : List ℕ) (left : Option (List ℕ)) → version ≡ other → turn ≡ there → text ≡ line
+    → turn.done < 2 ^ 32 → turn.frames < 2 ^ 64
     → IfSome left (λ octets. line ≡ front_line 400 octets) → IsNone version turn text → IfSome left (IsNoNext other there)
 amiss_so version other turn there text line left version_is turn_is text_is few few_frames is none =
     let V : ℕ → Type 0 = λ v. IfSome left (IsNoNext v there) in
@@ -101,23 +109,27 @@ amiss_so version other turn there text line left version_is turn_is text_is few 
     subst V version_is (subst T turn_is (no_next_behind version turn text left few few_frames (subst L (sym text_is) is) none))
 
 -- the line of an entry by an engine determines the entry
-same_entry : (second : Bool) (text : List ℕ) (own other : PlainEntry) → text ≡ text_by second own → text ≡ text_by second other → entry_text own ≡ entry_text other
+same_entry : (second : Bool) (text : List ℕ) (own other : PlainEntry) → text ≡ text_by second own → text ≡ text_by second other
+    → entry_text own ≡ entry_text other
 same_entry false text own other is same = sym is ∙ same
 same_entry true text own other is same = let both : 47 ∷ entry_text own ≡ 47 ∷ entry_text other = sym is ∙ same in cc
 
 -- the line of an entry of another number
-pub other_number : (version : ℕ) (turn : Turn) (text : List ℕ) (own : PlainEntry) → turn.done < 2 ^ 32 → turn.frames < 2 ^ 64 → IsEntryLine version turn.second text own → (own.number ≡ turn.done + 1 → ⊥)
-    → IsNone version turn text
+pub other_number : (version : ℕ) (turn : Turn) (text : List ℕ) (own : PlainEntry) → turn.done < 2 ^ 32 → turn.frames < 2 ^ 64
+    → IsEntryLine version turn.second text own → (own.number ≡ turn.done + 1 → ⊥) → IsNone version turn text
 other_number version turn text own few few_frames line other =
     record {
       entry =
           λ e fits number same.
           other (ap (λ (x : PlainEntry). x.number) (entry_one own e line.fits.fits fits.fits (same_entry turn.second text own e line.is same)) ∙ number);
-      last = λ first same. entry_no_last own (lasts.End turn.done turn.frames) line.fits.fits (few, few_frames) (sym (line.is ∙ ap (λ b. text_by b own) first) ∙ same);
+      last =
+          λ first same. entry_no_last own (lasts.End turn.done turn.frames) line.fits.fits (few, few_frames)
+          (sym (line.is ∙ ap (λ b. text_by b own) first) ∙ same);
     }
 
 -- a line of no entry, and not the last one
-pub none_told : (version : ℕ) (turn : Turn) (text part : List ℕ) → part ≡ part_by turn.second text → ((entry : PlainEntry) → IsEntryOf version entry → part ≢ entry_text entry) → (IsLast turn text → ⊥) → IsNone version turn text
+pub none_told : (version : ℕ) (turn : Turn) (text part : List ℕ) → part ≡ part_by turn.second text
+    → ((entry : PlainEntry) → IsEntryOf version entry → part ≢ entry_text entry) → (IsLast turn text → ⊥) → IsNone version turn text
 none_told version turn text part is_part none no_last =
     record { entry = λ entry fits number same. none entry fits (is_part ∙ ap (part_by turn.second) same ∙ part_is turn.second entry); last = λ first same. no_last (record { first = first; is = same }) } where
       part_is : (second : Bool) (entry : PlainEntry) → part_by second (text_by second entry) ≡ entry_text entry

@@ -47,7 +47,8 @@ pub names_step : (choice : Choice) (value rest : List ℕ) (start end : ℕ) (na
     → names_from choice value start names ≡ names_behind choice value (start + (end + 1)) added
 names_step choice value rest start end names place added within is at named adds =
     let on : nat_le start (length value) ≡ true = grind arith in
-    let parts : slice_split is_comma rest ≡ take end rest ∷ others end rest = split_parts rest ∙ (λ i. take (sym at i) rest ∷ others (sym at i) rest) in
+    let parts : slice_split is_comma rest ≡ take end rest ∷ others end rest =
+    split_parts rest ∙ (λ i. take (sym at i) rest ∷ others (sym at i) rest) in
     let place_is : with_place names (place_named choice (take end rest)) ≡ added = ap (with_place names) (sym named) ∙ sym adds in
     let added_so : with_names_of choice names (take end rest ∷ others end rest) ≡ elim added [ Some next ↦ with_names_of choice next (others end rest) | None ↦ None ] =
     ap (λ (o : Option (List Bool)). elim o [ Some next ↦ with_names_of choice next (others end rest) | None ↦ None ]) place_is in
@@ -68,6 +69,8 @@ names_step choice value rest start end names place added within is at named adds
     behind : drop (end + 1) rest ≡ drop (start + (end + 1)) value
     behind = ap (drop (end + 1)) is ∙ drop-drop (end + 1) start value
 
-    by : (added : Option (List Bool)) → elim added [ Some next ↦ with_names_of choice next (others end rest) | None ↦ None ] ≡ names_behind choice value (start + (end + 1)) added
+    by : (added : Option (List Bool))
+        → elim added [ Some next ↦ with_names_of choice next (others end rest) | None ↦ None ] ≡ names_behind choice value (start + (end + 1)) added
     by None = refl
-    by (Some next) = so next (ltb end (length rest)) ∙ (λ i. if counts i then with_names_of choice next (slice_split is_comma (behind i)) else Some next)
+    by (Some next) =
+        so next (ltb end (length rest)) ∙ (λ i. if counts i then with_names_of choice next (slice_split is_comma (behind i)) else Some next)

@@ -1,5 +1,5 @@
 -- The end of a view: what was read and what is printed then.
-use Rattle.std.proofs.Common.{◌≡◌, ℕ, zero, suc, Bool, true, false, List, ◌++◌, length, Option, Some, None, refl, sym, ap, subst, ◌∙◌, append_assoc, append-nil, if◌then◌else◌}
+use Rattle.std.proofs.Common.{◌≡◌, ℕ, zero, suc, Bool, true, false, List, ◌++◌, length, map, Option, Some, None, refl, sym, ap, subst, ◌∙◌, append_assoc, append-nil, if◌then◌else◌}
 use Rattle.std.specs.Prelude.{IfSome}
 use Rattle.std.specs.Io.KnownBytes.{Appends, Consumes, IsAtEnd}
 use Rattle.std.proofs.KnownBytes.{Appends-trans, Consumes-trans}
@@ -15,10 +15,13 @@ use Rattle.run_view.specs.Forms.{heading, is_both}
 use Rattle.run_view.specs.Going.{Going}
 use Rattle.run_view.specs.Items.{AreItems, Item, end_text, firsts, frames_of, lines_of, lines_text, packets_of, turn_at, waits}
 use Rattle.run_view.specs.Printed.{summary_shown}
-use Rattle.run_view.specs.SoFar.{AreWhole, Counts, Ends, SoFar, Whole, closing_shown, turn_in}
+use Rattle.run_view.specs.SoFar.{AreWhole, Closed, Counts, Ends, SoFar, Whole, closing_shown, notes_in, turn_in}
 use Rattle.run_view.specs.Summary.{no_eras, with_eras}
 use Rattle.run_view.specs.Chosen.{has_choice}
-use Rattle.run_view.specs.View.{closing, closing_text, items_text, printed_of, second_sides, summary_of, view_text_of}
+use Rattle.run_view.specs.View.{answer_of, closing, closing_text, items_text, noted, printed_of, second_sides, summary_of, view_text_of}
+use Rattle.run_notes.specs.Counts.{Counts as NoteCounts}
+use Rattle.run_notes.specs.Fragments.{number_count}
+use Rattle.run_notes.specs.Notes.{notes_of}
 use Rattle.run_view.specs.Viewed.{ViewedAs, report_of}
 use Rattle.run_view.specs.Why.{ToldEnd}
 
@@ -43,6 +46,9 @@ summary_is form records frames tally head items is_records is_frames counts = λ
       first = counts.sides i;
       second = second_sides (is_both form) (counts.second_sides i);
       frames = is_frames i;
+      unfinished = (counts.notes i).fragments.all;
+      types = map number_count (counts.notes i).types;
+      protocols = map number_count (counts.notes i).protocols;
       rules = counts.rules_are i;
       eras = with_eras (counts.second_eras_are i) (with_eras (counts.eras i) no_eras);
     }
@@ -56,6 +62,7 @@ closing_is viewer asked form head items is form_is count frame_count printed cou
     ap (λ (f : Form). summary_shown (is_both f) viewer.files.count viewer.files.frames.count viewer.tally) form_is
     ∙ summary_is form viewer.files.count viewer.files.frames.count viewer.tally head items count frame_count counts in
     λ i. closing (is i).print (has_choice (is i)) (printed i) (summary i) (counts.eras i) (counts.second_eras_are i)
+    (notes_of (counts.notes i))
 
 -- how the view has changed since its last record
 pub record Closes (viewer last : Viewer) : Type 0 where
@@ -92,19 +99,19 @@ end_is viewer head before now items so_far first =
     λ i. last_text (End (done i) (so_far.frame_count i))
 
 -- the whole run was viewed
-pub whole_now : (viewer last : Viewer) (asked : Asked) (form : Form) (head written : Head) (before now : Ends) (report left ended printed : Option (List ℕ))
+pub whole_now : (viewer last : Viewer) (asked : Asked) (form : Form) (head written : Head) (before now : Ends) (report left ended printed : Option (List ℕ)) (answered : ℕ)
     → viewer.asked ≡ asked → viewer.form ≡ form → viewer.files.head ≡ head → Closes viewer last
     → ToldEnd (turn_in viewer) left ended → IsAtEnd ended
     → ((items : List Item) → SoFar viewer written before now items → AreWhole viewer.files.head written before.read before.written (packets_of items) (frames_of items))
-    → Appends now.printed printed (closing_shown last) → Going viewer written before now report left
-    → Whole asked form head written before printed report
-whole_now viewer last asked form head written before now report left ended printed is_asked is_form is_head closes told end ends prints going =
+    → Closed last now.printed printed answered → Going viewer written before now report left
+    → Whole asked form head written before printed report answered
+whole_now viewer last asked form head written before now report left ended printed answered is_asked is_form is_head closes told end ends closed going =
     let items = going.items in
     let so_far = going.so_far in
     let closing : closing_shown last ≡ closing_text viewer.asked viewer.form viewer.files.head items = closing_now viewer last items closes so_far.counts so_far.count so_far.frame_count so_far.printing.count in
     let P : List ℕ → Type 0 = λ text. Appends now.printed printed text in
     let text : Appends before.printed printed (view_text_of viewer.asked viewer.form viewer.files.head items) =
-    Appends-trans before.printed now.printed printed (items_text viewer.asked viewer.form viewer.files.head items) (closing_text viewer.asked viewer.form viewer.files.head items) so_far.text (subst P closing prints) in
+    Appends-trans before.printed now.printed printed (items_text viewer.asked viewer.form viewer.files.head items) (closing_text viewer.asked viewer.form viewer.files.head items) so_far.text (subst P closing closed.prints) in
     let A : Asked → Type 0 = λ a. Appends before.printed printed (view_text_of a viewer.form viewer.files.head items) in
     let F : Form → Type 0 = λ f. Appends before.printed printed (view_text_of asked f viewer.files.head items) in
     let H : Head → Type 0 = λ h. Appends before.printed printed (view_text_of asked form h items) in
@@ -120,6 +127,12 @@ whole_now viewer last asked form head written before now report left ended print
       whole = subst W is_head (ends items so_far);
       told = all_taken report ended _ (subst L (end_is viewer written before now items so_far told.first) all) end;
       text = subst H is_head (subst F is_form (subst A is_asked text));
+      status =
+          closed.status
+          ∙ ap (λ (a : Asked). answer_of a.print (notes_in last.tally)) (closes.asked ∙ is_asked)
+          ∙ ap (λ (t : Tally). answer_of asked.print (notes_in t)) closes.tally
+          ∙ ap (λ (n : NoteCounts). answer_of asked.print (notes_of n)) so_far.counts.notes
+          ∙ ap (λ (h : Head). answer_of asked.print (notes_of (noted h items))) is_head;
     }
 
 -- the same with the first line of the report
@@ -129,9 +142,9 @@ reported None behind form items first told = tt
 reported (Some x) None form items first told = absurd first
 reported (Some x) (Some y) form items first told = first ∙ ap (λ l. heading form ++ l) told ∙ sym (append_assoc (heading form) (lines_text (lines_of items)) (end_text items))
 
-pub viewed_as : (asked : Asked) (form : Form) (head written : Head) (read wrote printed report behind now : Option (List ℕ)) → written.link ≡ head.link → Consumes report behind (heading form)
-    → Whole asked form head written (record { read = read; written = wrote; printed = printed }) now behind → ViewedAs asked read wrote report printed now
-viewed_as asked form head written read wrote printed report behind now same first whole =
+pub viewed_as : (asked : Asked) (form : Form) (head written : Head) (read wrote printed report behind now : Option (List ℕ)) (answered : ℕ) → written.link ≡ head.link → Consumes report behind (heading form)
+    → Whole asked form head written (record { read = read; written = wrote; printed = printed }) now behind answered → ViewedAs asked read wrote report printed now answered
+viewed_as asked form head written read wrote printed report behind now answered same first whole =
     record {
       head = head;
       written = written;
@@ -144,4 +157,5 @@ viewed_as asked form head written read wrote printed report behind now same firs
       frames = whole.whole.frames_are;
       lines = reported report behind form whole.items first whole.told;
       text = whole.text;
+      status_is = whole.status;
     }

@@ -34,9 +34,11 @@ equal_self n = grind arith
 rows_past : (row : ℕ → PlainRow) (era : ℕ) (f : PlainRow → PlainRow) (ns : List ℕ) → among era ns ≡ false → rows_at row ns ≡ rows_at (at era f row) ns
 rows_past row era f [] none = refl
 rows_past row era f (n ∷ ns) none = by (nat_eq era n) refl (rows_past row era f ns) none where
-  by : (b : Bool) → nat_eq era n ≡ b → (among era ns ≡ false → rows_at row ns ≡ rows_at (at era f row) ns) → (if b then true else among era ns) ≡ false → (n, row n) ∷ rows_at row ns ≡ (n, at era f row n) ∷ rows_at (at era f row) ns
+  by : (b : Bool) → nat_eq era n ≡ b → (among era ns ≡ false → rows_at row ns ≡ rows_at (at era f row) ns)
+      → (if b then true else among era ns) ≡ false → (n, row n) ∷ rows_at row ns ≡ (n, at era f row n) ∷ rows_at (at era f row) ns
   by true test later none = cc
-  by false test later none = ap (λ (b : Bool). (n, (if b then f (row n) else row n)) ∷ rows_at row ns) (sym test) ∙ ap (λ l. (n, at era f row n) ∷ l) (later none)
+  by false test later none =
+      ap (λ (b : Bool). (n, (if b then f (row n) else row n)) ∷ rows_at row ns) (sym test) ∙ ap (λ l. (n, at era f row n) ∷ l) (later none)
 
 -- a table of rows whose eras stand once; an era that is not among them has no row
 pub record IsTable (row : ℕ → PlainRow) (ns : List ℕ) : Type 0 where
@@ -44,32 +46,42 @@ pub record IsTable (row : ℕ → PlainRow) (ns : List ℕ) : Type 0 where
   pub absent : (era : ℕ) → among era ns ≡ false → row era ≡ no_row
 
 -- the row of an era is changed
-changed_rows : (row : ℕ → PlainRow) (era : ℕ) (f : PlainRow → PlainRow) (ns : List ℕ) → IsOnce ns → (among era ns ≡ false → row era ≡ no_row) → changed era f (rows_at row ns) ≡ rows_at (at era f row) (with_number ns era)
-changed_rows row era f [] once absent = ap (λ r. (era, f r) ∷ []) (sym (absent refl)) ∙ ap (λ (b : Bool). (era, (if b then f (row era) else row era)) ∷ []) (sym (equal_self era))
+changed_rows : (row : ℕ → PlainRow) (era : ℕ) (f : PlainRow → PlainRow) (ns : List ℕ) → IsOnce ns → (among era ns ≡ false → row era ≡ no_row)
+    → changed era f (rows_at row ns) ≡ rows_at (at era f row) (with_number ns era)
+changed_rows row era f [] once absent =
+    ap (λ r. (era, f r) ∷ []) (sym (absent refl)) ∙ ap (λ (b : Bool). (era, (if b then f (row era) else row era)) ∷ []) (sym (equal_self era))
 changed_rows row era f (n ∷ ns) once absent = by (nat_eq era n) refl (changed_rows row era f ns once.1) absent where
-  by : (b : Bool) → nat_eq era n ≡ b → ((among era ns ≡ false → row era ≡ no_row) → changed era f (rows_at row ns) ≡ rows_at (at era f row) (with_number ns era)) → ((if b then true else among era ns) ≡ false → row era ≡ no_row)
+  by : (b : Bool) → nat_eq era n ≡ b
+      → ((among era ns ≡ false → row era ≡ no_row) → changed era f (rows_at row ns) ≡ rows_at (at era f row) (with_number ns era))
+      → ((if b then true else among era ns) ≡ false → row era ≡ no_row)
       → (if b then (n, f (row n)) ∷ rows_at row ns else (n, row n) ∷ changed era f (rows_at row ns)) ≡ rows_at (at era f row) (if b then n ∷ ns else n ∷ with_number ns era)
   by true test later absent =
       let same : era ≡ n = grind (arith, nat_tests) in
       let none : among era ns ≡ false = ap (λ m. among m ns) same ∙ once.0 in
-      ap (λ (b : Bool). (n, (if b then f (row n) else row n)) ∷ rows_at row ns) (sym test) ∙ ap (λ l. (n, at era f row n) ∷ l) (rows_past row era f ns none)
+      ap (λ (b : Bool). (n, (if b then f (row n) else row n)) ∷ rows_at row ns) (sym test)
+      ∙ ap (λ l. (n, at era f row n) ∷ l) (rows_past row era f ns none)
   by false test later absent =
-      ap (λ (b : Bool). (n, (if b then f (row n) else row n)) ∷ changed era f (rows_at row ns)) (sym test) ∙ ap (λ l. (n, at era f row n) ∷ l) (later absent)
+      ap (λ (b : Bool). (n, (if b then f (row n) else row n)) ∷ changed era f (rows_at row ns)) (sym test)
+      ∙ ap (λ l. (n, at era f row n) ∷ l) (later absent)
 
-among_if : (b : Bool) (other n : ℕ) (ns ms : List ℕ) → among other (if b then n ∷ ns else n ∷ ms) ≡ false → (if b then (if nat_eq other n then true else among other ns) else (if nat_eq other n then true else among other ms)) ≡ false
+among_if : (b : Bool) (other n : ℕ) (ns ms : List ℕ) → among other (if b then n ∷ ns else n ∷ ms) ≡ false
+    → (if b then (if nat_eq other n then true else among other ns) else (if nat_eq other n then true else among other ms)) ≡ false
 among_if true other n ns ms none = none
 among_if false other n ns ms none = none
 
 -- a number that is added
 among_added : (other era : ℕ) (ns : List ℕ) → among other (with_number ns era) ≡ false → (nat_eq era other ≡ false) × (among other ns ≡ false)
 among_added other era [] none = (grind (arith, nat_tests), refl)
-among_added other era (n ∷ ns) none = by (nat_eq era n) (nat_eq other n) refl refl (among_added other era ns) (among_if (nat_eq era n) other n ns (with_number ns era) none) where
-  by : (b c : Bool) → nat_eq era n ≡ b → nat_eq other n ≡ c → (among other (with_number ns era) ≡ false → (nat_eq era other ≡ false) × (among other ns ≡ false))
-      → (if b then (if c then true else among other ns) else (if c then true else among other (with_number ns era))) ≡ false → (nat_eq era other ≡ false) × ((if c then true else among other ns) ≡ false)
-  by true true test is later none = cc
-  by true false test is later none = (grind (arith, nat_tests), none)
-  by false true test is later none = cc
-  by false false test is later none = later none
+among_added other era (n ∷ ns) none =
+    by (nat_eq era n) (nat_eq other n) refl refl (among_added other era ns) (among_if (nat_eq era n) other n ns (with_number ns era) none) where
+      by : (b c : Bool) → nat_eq era n ≡ b → nat_eq other n ≡ c
+          → (among other (with_number ns era) ≡ false → (nat_eq era other ≡ false) × (among other ns ≡ false))
+          → (if b then (if c then true else among other ns) else (if c then true else among other (with_number ns era))) ≡ false
+          → (nat_eq era other ≡ false) × ((if c then true else among other ns) ≡ false)
+      by true true test is later none = cc
+      by true false test is later none = (grind (arith, nat_tests), none)
+      by false true test is later none = cc
+      by false false test is later none = later none
 
 past_more : (c a b : Bool) → (if c then true else a) ≡ false → (a ≡ false → b ≡ false) → (if c then true else b) ≡ false
 past_more true a b none later = none
@@ -77,10 +89,11 @@ past_more false a b none later = later none
 
 past_added : (other era : ℕ) (ns : List ℕ) → nat_eq other era ≡ false → among other ns ≡ false → among other (with_number ns era) ≡ false
 past_added other era [] differ none = ap (λ (b : Bool). if b then true else false) differ
-past_added other era (n ∷ ns) differ none = by (nat_eq era n) (past_more (nat_eq other n) (among other ns) (among other (with_number ns era)) none (past_added other era ns differ)) where
-  by : (b : Bool) → among other (n ∷ with_number ns era) ≡ false → among other (if b then n ∷ ns else n ∷ with_number ns era) ≡ false
-  by true more = none
-  by false more = more
+past_added other era (n ∷ ns) differ none =
+    by (nat_eq era n) (past_more (nat_eq other n) (among other ns) (among other (with_number ns era)) none (past_added other era ns differ)) where
+      by : (b : Bool) → among other (n ∷ with_number ns era) ≡ false → among other (if b then n ∷ ns else n ∷ with_number ns era) ≡ false
+      by true more = none
+      by false more = more
 
 once_added : (era : ℕ) (ns : List ℕ) → IsOnce ns → IsOnce (with_number ns era)
 once_added era [] once = (refl, tt)
@@ -104,7 +117,8 @@ pub record IsRows (table : List (ℕ × PlainRow)) (row : ℕ → PlainRow) (ns 
   pub is : table ≡ rows_at row ns
   pub whole : IsTable row ns
 
-change_rows : (table : List (ℕ × PlainRow)) (row : ℕ → PlainRow) (ns : List ℕ) (era : ℕ) (f : PlainRow → PlainRow) → IsRows table row ns → IsRows (changed era f table) (at era f row) (with_number ns era)
+change_rows : (table : List (ℕ × PlainRow)) (row : ℕ → PlainRow) (ns : List ℕ) (era : ℕ) (f : PlainRow → PlainRow) → IsRows table row ns
+    → IsRows (changed era f table) (at era f row) (with_number ns era)
 change_rows table row ns era f rows =
     record { is = ap (changed era f) rows.is ∙ changed_rows row era f ns rows.whole.once (rows.whole.absent era); whole = table_changed row era f ns rows.whole }
 
@@ -127,7 +141,8 @@ ended_rows : (table : List (ℕ × PlainRow)) (row : ℕ → PlainRow) (ns : Lis
     → IsRows (with_ended all table) (at_ended all row) (with_numbers ns (map (λ (ended : Ended). ended.era) all))
 ended_rows table row ns [] rows = rows
 ended_rows table row ns (ended ∷ more) rows =
-    ended_rows (changed ended.era (with_end ended) table) (at ended.era (with_end ended) row) (with_number ns ended.era) more (change_rows table row ns ended.era (with_end ended) rows)
+    ended_rows (changed ended.era (with_end ended) table) (at ended.era (with_end ended) row) (with_number ns ended.era) more
+    (change_rows table row ns ended.era (with_end ended) rows)
 
 numbers_append : (ns one two : List ℕ) → with_numbers ns (one ++ two) ≡ with_numbers (with_numbers ns one) two
 numbers_append ns [] two = refl
@@ -147,7 +162,8 @@ entry_is_rows table row ns second entry time octets flow rows =
     let three = ended_rows _ _ _ entry.ended two in
     let ended = map (λ (ended : Ended). ended.era) entry.ended in
     let same : with_numbers ns (eras_in entry) ≡ with_numbers (with_numbers (with_numbers ns (if_number entry.era)) (if_number entry.begun)) ended =
-    numbers_append ns (if_number entry.era) (if_number entry.begun ++ ended) ∙ numbers_append (with_numbers ns (if_number entry.era)) (if_number entry.begun) ended in
+    numbers_append ns (if_number entry.era) (if_number entry.begun ++ ended)
+    ∙ numbers_append (with_numbers ns (if_number entry.era)) (if_number entry.begun) ended in
     let N : List ℕ → Type 0 = λ l. IsRows (with_entry second entry time octets flow table) (entry_rows second entry time octets flow row) l in
     subst N (sym same) three
 
@@ -176,7 +192,8 @@ ended_at (ended ∷ more) row era = ended_at more (at ended.era (with_end ended)
 within_more : (n more : ℕ) → plus (within n) more ≡ within (n + more)
 within_more n more = grind arith
 
-first_more : (head : Head) (item : Item) (own : List Item) → (if within (length own) == 0 then time_of head item.packet else first_time head own) ≡ first_time head (item ∷ own)
+first_more : (head : Head) (item : Item) (own : List Item)
+    → (if within (length own) == 0 then time_of head item.packet else first_time head own) ≡ first_time head (item ∷ own)
 first_more head item [] = refl
 first_more head item (next ∷ own) =
     let some : (within (length (next ∷ own)) == 0) ≡ false = grind arith in ap (λ (b : Bool). if b then time_of head item.packet else first_time head (next ∷ own)) some
@@ -270,12 +287,15 @@ row_more second head item older octets era =
 
     by : (mine begun_now : Bool)
         → (let r : PlainRow = (let s : PlainRow = (if mine then own_row head item (rows_with second head older octets era) else rows_with second head older octets era) in if begun_now then with_begin outside flow s else s) in record r { ended = last_end era r.ended item.entry.ended })
-        ≡ own_quantities head (if mine then item ∷ own_of era older else own_of era older) (if mine then octets era + inward_octets head item else octets era) (flow_begun second head (if begun_now then Some item else begun)) (opened_begun second head (if begun_now then Some item else begun)) (last_end era None (all_ended older ++ item.entry.ended))
+        ≡ own_quantities head (if mine then item ∷ own_of era older else own_of era older)
+        (if mine then octets era + inward_octets head item else octets era) (flow_begun second head (if begun_now then Some item else begun))
+        (opened_begun second head (if begun_now then Some item else begun)) (last_end era None (all_ended older ++ item.entry.ended))
     by true true =
         ap begins (own_more head item (own_of era older) (octets era) old_flow old_opened before)
         ∙ ap (own_quantities head (item ∷ own_of era older) (octets era + inward_octets head item) (outside_first outside flow) (Some (opened_by outside flow))) ends
     by true false =
-        ap (λ (r : PlainRow). record r { ended = last_end era r.ended item.entry.ended }) (own_more head item (own_of era older) (octets era) old_flow old_opened before)
+        ap (λ (r : PlainRow). record r { ended = last_end era r.ended item.entry.ended })
+        (own_more head item (own_of era older) (octets era) old_flow old_opened before)
         ∙ ap (own_quantities head (item ∷ own_of era older) (octets era + inward_octets head item) old_flow old_opened) ends
     by false true = ap (own_quantities head (own_of era older) (octets era) (outside_first outside flow) (Some (opened_by outside flow))) ends
     by false false = ap (own_quantities head (own_of era older) (octets era) old_flow old_opened) ends
@@ -285,7 +305,8 @@ rows_same : (one two : ℕ → PlainRow) (ns : List ℕ) → ((era : ℕ) → on
 rows_same one two [] same = refl
 rows_same one two (n ∷ ns) same = ap (λ r. (n, r) ∷ rows_at one ns) (same n) ∙ ap (λ l. (n, two n) ∷ l) (rows_same one two ns same)
 
-rows_to : (table : List (ℕ × PlainRow)) (one two : ℕ → PlainRow) (ns : List ℕ) → ((era : ℕ) → one era ≡ two era) → IsRows table one ns → IsRows table two ns
+rows_to : (table : List (ℕ × PlainRow)) (one two : ℕ → PlainRow) (ns : List ℕ) → ((era : ℕ) → one era ≡ two era) → IsRows table one ns
+    → IsRows table two ns
 rows_to table one two ns same rows =
     record {
       is = rows.is ∙ rows_same one two ns same;
@@ -303,19 +324,24 @@ line_is second head item older octets table named before =
     let row = entry_rows second item.entry (time_of head item.packet) (inward_octets head item) flow (rows_with second head older octets) in
     let more : IsRows (with_item second head item table) row (with_numbers ns (eras_in item.entry)) =
     entry_is_rows table (rows_with second head older octets) ns second item.entry (time_of head item.packet) (inward_octets head item) flow before in
-    let N : List ℕ → Type 0 = λ l. IsRows (with_item second head item table) (rows_with second head (item ∷ older) (octets_with head item octets)) l in
-    subst N (sym (numbers_append [] named (eras_in item.entry))) (rows_to (with_item second head item table) row (rows_with second head (item ∷ older) (octets_with head item octets)) (with_numbers ns (eras_in item.entry)) (row_more second head item older octets) more)
+    let N : List ℕ → Type 0 =
+    λ l. IsRows (with_item second head item table) (rows_with second head (item ∷ older) (octets_with head item octets)) l in
+    subst N (sym (numbers_append [] named (eras_in item.entry)))
+    (rows_to (with_item second head item table) row (rows_with second head (item ∷ older) (octets_with head item octets)) (with_numbers ns (eras_in item.entry)) (row_more second head item older octets) more)
 
 no_rows : (second : Bool) (octets : ℕ → ℕ) (head : Head) → ((era : ℕ) → octets era ≡ 0) → IsRows [] (rows_with second head [] octets) []
-no_rows second octets head none = record { is = refl; whole = record { once = tt; absent = λ era absent. ap (λ n. record no_row { sent = within n }) (none era) } }
+no_rows second octets head none =
+    record { is = refl; whole = record { once = tt; absent = λ era absent. ap (λ n. record no_row { sent = within n }) (none era) } }
 
 octets_same : (second : Bool) (head : Head) (items : List Item) (one two : ℕ → ℕ) → ((era : ℕ) → one era ≡ two era) → (era : ℕ)
     → rows_with second head items one era ≡ rows_with second head items two era
 octets_same second head items one two same era = ap (λ n. record (row_of second head items era) { sent = within n }) (same era)
 
-own_octets_more : (head : Head) (item : Item) (older : List Item) (era : ℕ) → octets_with head item (λ n. octets_sum head (own_of n older)) era ≡ octets_sum head (own_of era (item ∷ older))
+own_octets_more : (head : Head) (item : Item) (older : List Item) (era : ℕ)
+    → octets_with head item (λ n. octets_sum head (own_of n older)) era ≡ octets_sum head (own_of era (item ∷ older))
 own_octets_more head item older era = by (is_number item.entry.era era) where
-  by : (b : Bool) → (if b then octets_sum head (own_of era older) + inward_octets head item else octets_sum head (own_of era older)) ≡ octets_sum head (if b then item ∷ own_of era older else own_of era older)
+  by : (b : Bool)
+      → (if b then octets_sum head (own_of era older) + inward_octets head item else octets_sum head (own_of era older)) ≡ octets_sum head (if b then item ∷ own_of era older else own_of era older)
   by true = refl
   by false = refl
 
@@ -326,7 +352,8 @@ eras_is second head [] = no_rows second (λ n. 0) head (λ era. refl)
 eras_is second head (item ∷ older) =
     let octets : ℕ → ℕ = λ n. octets_sum head (own_of n older) in
     let next : ℕ → ℕ = λ n. octets_sum head (own_of n (item ∷ older)) in
-    rows_to (eras_of second head (item ∷ older)) (rows_with second head (item ∷ older) (octets_with head item octets)) (row_of second head (item ∷ older)) (with_numbers [] (eras_named (item ∷ older)))
+    rows_to (eras_of second head (item ∷ older)) (rows_with second head (item ∷ older) (octets_with head item octets))
+    (row_of second head (item ∷ older)) (with_numbers [] (eras_named (item ∷ older)))
     (octets_same second head (item ∷ older) (octets_with head item octets) next (own_octets_more head item older))
     (line_is second head item older octets (eras_of second head older) (eras_named older) (eras_is second head older))
 
@@ -344,13 +371,15 @@ octets_row row own era sum more is = by (is_number own era) where
   by true = ap (λ n. record row { sent = n }) (ap (λ n. plus n more) is ∙ within_more sum more)
   by false = ap (λ n. record row { sent = n }) (is ∙ ap within (omega arith))
 
-first_step : (head : Head) (item : Item) (first : Option PlainEntry) (older : List Item) → IsRows (first_eras head older) (first_row head older) (with_numbers [] (first_named older))
+first_step : (head : Head) (item : Item) (first : Option PlainEntry) (older : List Item)
+    → IsRows (first_eras head older) (first_row head older) (with_numbers [] (first_named older))
     → (let line : Item = record item { first = first } in IsRows (first_eras head (line ∷ older)) (first_row head (line ∷ older)) (with_numbers [] (first_named (line ∷ older))))
 first_step head item None older before =
     let line : Item = record item { first = None } in
     let octets : ℕ → ℕ = λ n. brought_sum n head older in
     let next : ℕ → ℕ = λ n. brought_sum n head (line ∷ older) in
-    rows_to (with_item false head line (first_eras head older)) (rows_with false head (line ∷ firsts older) (octets_with head line octets)) (first_row head (line ∷ older)) (with_numbers [] (first_named (line ∷ older)))
+    rows_to (with_item false head line (first_eras head older)) (rows_with false head (line ∷ firsts older) (octets_with head line octets))
+    (first_row head (line ∷ older)) (with_numbers [] (first_named (line ∷ older)))
     (octets_same false head (line ∷ firsts older) (octets_with head line octets) next (λ era. brought_more item.entry.era era (brought_sum era head older) (inward_octets head line)))
     (line_is false head line (firsts older) octets (first_eras head older) (first_named older) before)
 first_step head item (Some first) older before =

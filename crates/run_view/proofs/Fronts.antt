@@ -62,17 +62,20 @@ ended_short ended fits =
 
 all_ended_short : (ended : List Ended) → AllByRecursion EndedFits ended → length (flat_map ended_part ended) ≤ 42 * length ended
 all_ended_short [] fit = omega arith
-all_ended_short (e ∷ ended) fit = omega (arith, length-append (ended_part e) (flat_map ended_part ended), ended_short e fit.0, all_ended_short ended fit.1)
+all_ended_short (e ∷ ended) fit =
+    omega (arith, length-append (ended_part e) (flat_map ended_part ended), ended_short e fit.0, all_ended_short ended fit.1)
 
 -- the sum of the lengths of the parts of a line
-eight : (a b c d e f g h t : List ℕ) → length ((((((((a ++ b) ++ c) ++ d) ++ e) ++ f) ++ g) ++ h) ++ t) ≡ length a + length b + length c + length d + length e + length f + length g + length h + length t
+eight : (a b c d e f g h t : List ℕ)
+    → length ((((((((a ++ b) ++ c) ++ d) ++ e) ++ f) ++ g) ++ h) ++ t) ≡ length a + length b + length c + length d + length e + length f + length g + length h + length t
 eight a b c d e f g h t = simp length-append refl
 
 pub entry_short : (entry : PlainEntry) → EntryFits entry → length (entry_text entry) ≤ 376
 entry_short entry fits =
     omega (
       arith,
-      eight (decimal entry.number) (part (side_word entry.side)) (part (verdict_word entry.verdict)) (part (decimal entry.packets)) (rule_parts entry.rules) (era_part 64 entry.era) (era_part 43 entry.begun) (flat_map ended_part entry.ended) (10 ∷ []),
+      eight (decimal entry.number) (part (side_word entry.side)) (part (verdict_word entry.verdict)) (part (decimal entry.packets))
+          (rule_parts entry.rules) (era_part 64 entry.era) (era_part 43 entry.begun) (flat_map ended_part entry.ended) (10 ∷ []),
       length-decimal-le 10 entry.number (omega arith) (omega (arith, fits.number)) (omega (arith, fits.number)),
       side_short entry.side,
       verdict_short entry.verdict,
@@ -96,13 +99,15 @@ end_short records frames few few_frames =
       length-decimal-le 20 frames (omega arith) (omega (arith, few_frames)) few_frames,
     )
 
-front_body : (room : ℕ) (body rest : List ℕ) → has_no 10 body ≡ true → length body < room → front_line room ((body ++ 10 ∷ []) ++ rest) ≡ body ++ 10 ∷ []
+front_body : (room : ℕ) (body rest : List ℕ) → has_no 10 body ≡ true → length body < room
+    → front_line room ((body ++ 10 ∷ []) ++ rest) ≡ body ++ 10 ∷ []
 front_body zero body rest none within = absurd (omega arith)
 front_body (suc room) [] rest none within = refl
 front_body (suc room) (x ∷ body) rest none within =
     let other : nat_eq x 10 ≡ false = grind (arith, nat_tests) in
     let later : has_no 10 body ≡ true = grind (arith, nat_tests) in
-    ap (λ b. cond b (x ∷ []) (x ∷ front_line room ((body ++ 10 ∷ []) ++ rest))) other ∙ ap (λ l. x ∷ l) (front_body room body rest later (omega arith))
+    ap (λ b. cond b (x ∷ []) (x ∷ front_line room ((body ++ 10 ∷ []) ++ rest))) other
+    ∙ ap (λ l. x ∷ l) (front_body room body rest later (omega arith))
 
 -- octets that begin with a line have it in front
 pub front_is : (line rest : List ℕ) → IsLine line → length line ≤ 399 → front_line 400 (line ++ rest) ≡ line
@@ -111,24 +116,28 @@ front_is line rest l short =
     ap (λ t. front_line 400 (t ++ rest)) l.whole ∙ front_body 400 l.body rest l.no_feed fewer ∙ sym l.whole
 
 pub entry_is_line : (entry : PlainEntry) → EntryFits entry → IsLine (entry_text entry)
-entry_is_line entry fits = record { body = joined (words_of entry); no_feed = joined-no_feed (words_of entry) (words-solid entry fits); whole = entry_text-joined entry }
+entry_is_line entry fits =
+    record { body = joined (words_of entry); no_feed = joined-no_feed (words_of entry) (words-solid entry fits); whole = entry_text-joined entry }
 
 -- a line with one octet more in front, which is no line feed
 behind_slash : (line : List ℕ) → IsLine line → IsLine (47 ∷ line)
 behind_slash line l = record { body = 47 ∷ l.body; no_feed = l.no_feed; whole = ap (λ t. 47 ∷ t) l.whole }
 
-pub line_front : (second : Bool) (octets rest : List ℕ) (entry : PlainEntry) → EntryFits entry → octets ≡ text_by second entry ++ rest → front_line 400 octets ≡ text_by second entry
+pub line_front : (second : Bool) (octets rest : List ℕ) (entry : PlainEntry) → EntryFits entry → octets ≡ text_by second entry ++ rest
+    → front_line 400 octets ≡ text_by second entry
 line_front false octets rest entry fits is =
     ap (front_line 400) is ∙ front_is (entry_text entry) rest (entry_is_line entry fits) (let short = entry_short entry fits in omega (arith, short))
 line_front true octets rest entry fits is =
     ap (front_line 400) is
-    ∙ front_is (47 ∷ entry_text entry) rest (behind_slash (entry_text entry) (entry_is_line entry fits)) (let short = entry_short entry fits in omega (arith, short))
+    ∙ front_is (47 ∷ entry_text entry) rest (behind_slash (entry_text entry) (entry_is_line entry fits))
+    (let short = entry_short entry fits in omega (arith, short))
 
 pub end_front : (octets rest : List ℕ) (records frames : ℕ) → records < 2 ^ 32 → frames < 2 ^ 64 → octets ≡ last_text (End records frames) ++ rest
     → front_line 400 octets ≡ last_text (End records frames)
 end_front octets rest records frames few few_frames is =
     ap (front_line 400) is
-    ∙ front_is (last_text (End records frames)) rest (last-line (End records frames) (few, few_frames)) (let short = end_short records frames few few_frames in omega (arith, short))
+    ∙ front_is (last_text (End records frames)) rest (last-line (End records frames) (few, few_frames))
+    (let short = end_short records frames few few_frames in omega (arith, short))
 
 heading_is_line : (form : Form) → IsLine (heading form)
 heading_is_line Version1 = first-line 1 (inl refl)

@@ -37,9 +37,11 @@ use Rattle.run_view.specs.SoFar.{Counts, Ends, HoldsNewest, MayTake, PrintsSo, S
 use Rattle.run_view.specs.Standing.{InputAt}
 use Rattle.run_view.specs.Steps.{FramesRead, Holds, IsGathered, is_of_era, wants_of}
 use Rattle.run_view.specs.Summary.{all_counted, with_side}
+use Rattle.run_notes.specs.Counts.{plain_counts, with_line}
+use Rattle.run_notes.specs.declared.notes.Notes.{Notes}
 use Rattle.run_view.specs.Chosen.{either, meets_all, meets_record, met_by, met_of, prints_records}
 use Rattle.run_view.specs.Shows.{NotesLine, due_text, is_shown, may_be_printed}
-use Rattle.run_view.specs.View.{ends_printed, is_given, items_text, newest_text, printed_of, record_line, record_of, record_text, with_item}
+use Rattle.run_view.specs.View.{ends_printed, is_given, items_text, line_at, newest_text, printed_of, record_line, record_of, record_text, with_item}
 
 -- the same of other kinds and octets
 gathers_of : (link : Link) (kinds more : Kinds) (octets others : List ℕ) (own : List Packet) (gathered : Gathered) → kinds ≡ more → octets ≡ others
@@ -120,12 +122,13 @@ brought_is judged entry gathered octets table wants are = by judged.era wants wh
   by (Some era) wants = let is = are (ap (λ (w : Wants). w.octets) wants) in λ i. changed era (with_sent (if_inward judged.side (is i))) table
 
 -- how the counts change with a line of the first engine
-pub record CountsFirst (old new : Tally) (entry : PlainEntry) (time : ℕ) (gathered : Gathered) : Type 0 where
+pub record CountsFirst (old new : Tally) (link : Link) (octets : List ℕ) (entry : PlainEntry) (time : ℕ) (gathered : Gathered) : Type 0 where
   pub sides : new.sides ≡ with_side entry.side entry.verdict old.sides
   pub second_sides : new.second_sides ≡ old.second_sides
   pub rules : new.rules.items ≡ all_counted entry.side entry.rules old.rules.items
   pub eras : table_of new.eras ≡ with_entry false entry time (if_inward entry.side gathered.octets) gathered.flow (table_of old.eras)
   pub second_eras : table_of new.second_eras ≡ table_of old.second_eras
+  pub notes : plain_counts new.notes ≡ with_line (record { link = link; octets = octets; entry = entry }) (plain_counts old.notes)
 
 -- and with one of the second
 pub record CountsSecond (old new : Tally) (judged : Judged) (entry : PlainEntry) (time : ℕ) (gathered : Gathered) : Type 0 where
@@ -134,6 +137,7 @@ pub record CountsSecond (old new : Tally) (judged : Judged) (entry : PlainEntry)
   pub rules : new.rules.items ≡ all_counted entry.side entry.rules old.rules.items
   pub eras : table_of new.eras ≡ changed_if judged.era (with_sent (if_inward judged.side gathered.octets)) (table_of old.eras)
   pub second_eras : table_of new.second_eras ≡ with_entry true entry time (if_inward entry.side gathered.octets) gathered.flow (table_of old.second_eras)
+  pub notes : new.notes ≡ old.notes
 
 -- the item of a line of the first engine
 abbrev pub first_item : Form → Packet → PlainEntry → (frames : List Packet) → Item
@@ -147,7 +151,7 @@ second_item newest entry frames owed = record { packet = newest.packet; entry = 
 counts_first : (old new : Tally) (head : Head) (items : List Item) (form : Form) (packet : Packet) (entry : PlainEntry) (own : List Packet) (time : ℕ) (gathered : Gathered)
     → gathered.wants ≡ wants_of None entry → time ≡ time_of head packet
     → IsGathered head.link (kinds_in (first_item form packet entry own)) packet.octets own gathered
-    → CountsFirst old new entry time gathered → Counts old head items → Counts new head (first_item form packet entry own ∷ items)
+    → CountsFirst old new head.link packet.octets entry time gathered → Counts old head items → Counts new head (first_item form packet entry own ∷ items)
 counts_first old new head items form packet entry own time gathered wanted is gathers changes counts =
     let item = first_item form packet entry own in
     record {
@@ -159,6 +163,7 @@ counts_first old new head items form packet entry own time gathered wanted is ga
           ∙ ap (λ (f : List (ℕ × PlainRow) → List (ℕ × PlainRow)). f (table_of old.eras)) (table_is false None entry time gathered head item refl wanted is gathers)
           ∙ ap (with_item false head item) counts.eras;
       second_eras_are = changes.second_eras ∙ counts.second_eras_are;
+      notes = changes.notes ∙ ap (with_line (line_at head item)) counts.notes;
     }
 
 -- and with one of the second
@@ -180,6 +185,7 @@ counts_second old new head items newest judged entry own owed time gathered judg
           changes.second_eras
           ∙ ap (λ (f : List (ℕ × PlainRow) → List (ℕ × PlainRow)). f (table_of old.second_eras)) (table_is true judged.era entry time gathered head item refl wanted is gathers)
           ∙ ap (with_item true head item) counts.second_eras_are;
+      notes = ap (λ (n : Notes). plain_counts n) changes.notes ∙ counts.notes;
     }
 
 left_part : (a b : Bool) → (a && b) ≡ true → a ≡ true
@@ -251,7 +257,7 @@ pub taken_first : (old : Viewer) (files : Files) (held : Held) (packets owed : �
     (gathered : Gathered)
     → old.owed ≡ 0 → files.count ≡ old.files.count + 1 → files.frames.count ≡ old.files.frames.count + packets → packets ≡ own_frames old.form entry.packets → kinds ≡ kinds_by (plain entry) false false
     → owed ≡ answers old.form entry.packets → given ≡ is_both old.form → time ≡ time_of old.files.head packet
-    → gathered.wants ≡ wants_of None (plain entry) → CountsFirst old.tally tally (plain entry) time gathered
+    → gathered.wants ≡ wants_of None (plain entry) → CountsFirst old.tally tally old.files.head.link packet.octets (plain entry) time gathered
     → (waits owed ≡ true → Holds packet.octets time (plain entry) held)
     → SoFar old head before mid items → IsEntryOf (version_of old.form) (plain entry) → entry.number ≡ old.files.count + 1
     → InputAt files.input old.files.head before.read read_now (packet ∷ packets_of items)

@@ -19,48 +19,39 @@ use Rattle.run_view.specs.Standing.{HasHead, HaveHeads, InputHeadStops, InputOpe
 use Rattle.run_view.specs.Why.{FirstStops}
 
 -- the first line of the report
-by_report : (s : Sources) (rose : Type 0) (then_ after : ℕ) (stop : Stop) → (Rose then_ after → rose) → HaveHeads s.input s.output → FirstStops s.report then_ after stop → WhyBefore s rose stop
-by_report s rose then_ after stops.Words wider heads why = absurd why
-by_report s rose then_ after (stops.Record n) wider heads why = absurd why
-by_report s rose then_ after (stops.Frame n) wider heads why = absurd why
-by_report s rose then_ after (stops.Input fault offset) wider heads why = absurd why
-by_report s rose then_ after (stops.Output fault offset) wider heads why = absurd why
+by_report : (s : Sources) (rose : Type 0) (then_ after : ℕ) (stop : Stop) → (Rose then_ after → rose) → HaveHeads s.input s.output
+    → FirstStops s.report then_ after stop → WhyBefore s rose stop
 by_report s rose then_ after stops.Unread wider heads why = wider why
-by_report s rose then_ after stops.Unwritten wider heads why = absurd why
-by_report s rose then_ after stops.Memory wider heads why = absurd why
 by_report s rose then_ after (stops.Report n) wider heads why = (heads, why)
+by_report s rose then_ after _ wider heads why = absurd why
 
 -- the same where the report is read through lines of which none was read yet
-pub by_report_ahead : (s : Sources) (lines : Lines) (rose : Type 0) (then_ after : ℕ) (stop : Stop) → left_in lines s.report ≡ s.report → (Rose then_ after → rose) → HaveHeads s.input s.output
-    → FirstStops (left_in lines s.report) then_ after stop → WhyBefore s rose stop
+pub by_report_ahead : (s : Sources) (lines : Lines) (rose : Type 0) (then_ after : ℕ) (stop : Stop) → left_in lines s.report ≡ s.report
+    → (Rose then_ after → rose) → HaveHeads s.input s.output → FirstStops (left_in lines s.report) then_ after stop → WhyBefore s rose stop
 by_report_ahead s lines rose then_ after stop same wider heads why =
     let F : Option (List ℕ) → Type 0 = λ r. FirstStops r then_ after stop in by_report s rose then_ after stop wider heads (subst F same why)
 
 -- the head of the input
-pub by_input : (s : Sources) (rose : Type 0) (then_ after : ℕ) (stop : Stop) → (Rose then_ after → rose) → InputHeadStops s.input then_ after stop → WhyBefore s rose stop
-by_input s rose then_ after stops.Words wider why = absurd why
-by_input s rose then_ after (stops.Record n) wider why = absurd why
-by_input s rose then_ after (stops.Frame n) wider why = absurd why
+pub by_input : (s : Sources) (rose : Type 0) (then_ after : ℕ) (stop : Stop) → (Rose then_ after → rose) → InputHeadStops s.input then_ after stop
+    → WhyBefore s rose stop
 by_input s rose then_ after (stops.Input fault offset) wider why = why
-by_input s rose then_ after (stops.Output fault offset) wider why = absurd why
 by_input s rose then_ after stops.Unread wider why = wider why
-by_input s rose then_ after stops.Unwritten wider why = absurd why
-by_input s rose then_ after stops.Memory wider why = absurd why
-by_input s rose then_ after (stops.Report n) wider why = absurd why
+by_input s rose then_ after _ wider why = absurd why
 
 has_head : (all left : Option (List ℕ)) (head : Head) (walk : Walk) → Took None all left head walk → IfSome all (λ octets. HasHead octets head)
 has_head None left head walk took = tt
 has_head (Some octets) None head walk took = absurd took
 has_head (Some octets) (Some rest) head walk took = record { walk = walk; rest = rest; begins = took }
 
-took_head : (all left : Option (List ℕ)) (head : Head) (frames : List Packet) → TookFrames all left head frames → IfSome all (λ octets. head_of octets ≡ Ok head)
+took_head : (all left : Option (List ℕ)) (head : Head) (frames : List Packet) → TookFrames all left head frames
+    → IfSome all (λ octets. head_of octets ≡ Ok head)
 took_head None left head frames took = tt
 took_head (Some octets) None head frames took = absurd took
 took_head (Some octets) (Some rest) head frames took = took.0
 
 -- both heads were taken
-pub heads_are : (input : Input) (reader : Reading) (read read_left written written_left : Option (List ℕ)) → InputOpened input read read_left → OutputAt reader reader.head written written_left []
-    → reader.head.link ≡ (head_in input).link → HaveHeads read written
+pub heads_are : (input : Input) (reader : Reading) (read read_left written written_left : Option (List ℕ)) → InputOpened input read read_left
+    → OutputAt reader reader.head written written_left [] → reader.head.link ≡ (head_in input).link → HaveHeads read written
 heads_are input reader read read_left written written_left opened at same =
     record {
       head = head_in input;
@@ -71,18 +62,13 @@ heads_are input reader read read_left written written_left opened at same =
     }
 
 -- the head of the output
-pub by_output_head : (input : Input) (link : Link) (s : Sources) (left : Option (List ℕ)) (rose : Type 0) (then_ after : ℕ) (stop : Stop) → (Rose then_ after → rose)
+pub by_output_head : (input : Input) (link : Link) (s : Sources) (left : Option (List ℕ)) (rose : Type 0) (then_ after : ℕ) (stop : Stop)
+    → (Rose then_ after → rose)
     → link ≡ (head_in input).link → InputOpened input s.input left → OutputHeadStops link s.output then_ after stop → WhyBefore s rose stop
-by_output_head input link s left rose then_ after stops.Words wider same opened why = absurd why
-by_output_head input link s left rose then_ after (stops.Record n) wider same opened why = absurd why
-by_output_head input link s left rose then_ after (stops.Frame n) wider same opened why = absurd why
-by_output_head input link s left rose then_ after (stops.Input fault offset) wider same opened why = absurd why
+by_output_head input link s left rose then_ after stops.Unread wider same opened why = wider why
 by_output_head input link s left rose then_ after (stops.Output fault offset) wider same opened (inl why) =
     record { head = head_in input; begins = has_head s.input left (head_in input) opened.stands.walk opened.stands.took; amiss = inl why }
 by_output_head input link s left rose then_ after (stops.Output fault offset) wider same opened (inr why) =
     let O : Link → Type 0 = λ l. IsOfOtherLink l s.output fault offset in
     record { head = head_in input; begins = has_head s.input left (head_in input) opened.stands.walk opened.stands.took; amiss = inr (subst O same why) }
-by_output_head input link s left rose then_ after stops.Unread wider same opened why = wider why
-by_output_head input link s left rose then_ after stops.Unwritten wider same opened why = absurd why
-by_output_head input link s left rose then_ after stops.Memory wider same opened why = absurd why
-by_output_head input link s left rose then_ after (stops.Report n) wider same opened why = absurd why
+by_output_head input link s left rose then_ after _ wider same opened why = absurd why

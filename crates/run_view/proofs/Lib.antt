@@ -1,15 +1,14 @@
 pub mod Fronts
 pub mod Lining
 pub mod Amiss
-pub mod Standings
-pub mod Tables
 pub mod Records
-pub mod Written
+pub mod Tables
+pub mod Frames
 pub mod Going
 pub mod Ending
+pub mod Widenings
 pub mod Whys
 pub mod Heads
-pub mod Gathering
 pub mod Listing
 pub mod Counting
 pub mod Ons
@@ -18,4 +17,7 @@ pub mod Commas
 pub mod Starting
 pub mod Telling
 pub mod EraRows
-pub mod Finished
+pub mod Numbered
+pub mod Fates
+pub mod Reasons
+pub mod OneStop

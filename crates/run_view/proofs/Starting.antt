@@ -13,7 +13,7 @@ use Rattle.run_view.specs.Items.{waits}
 use Rattle.run_view.specs.View.{opening}
 use Rattle.run_view.specs.declared.viewer.Viewer.{Viewer}
 use Rattle.run_view.specs.declared.words.Asked.{Asked}
-use Rattle.run_view.specs.Causes.{EntriesStop, FaultCounts, FilesStop, SourceRose, sources_of}
+use Rattle.run_view.specs.Causes.{EntriesStop, FaultCounts, FilesStop, Moment, sources_of}
 use Rattle.run_view.specs.Printed.{PrintStops}
 use Rattle.run_view.specs.declared.stop.Stop.{Stop}
 use Rattle.run_view.specs.declared.stop.Stop.TheVariants as stops
@@ -23,7 +23,8 @@ use Rattle.run_view.specs.SoFar.{IsFresh, SoFar, Whole, ends_of}
 use Rattle.run_view.specs.Standing.{InputAt, InputOpened, OutputAt}
 use Rattle.run_view.specs.Viewed.{ViewedAs}
 use Rattle.run_view.proofs.Ending.{viewed_as}
-use Rattle.run_view.proofs.Whys.{behind_at, entries_wider}
+use Rattle.run_view.proofs.Whys.{behind_at}
+use Rattle.run_view.proofs.Widenings.{Wider, entries_wider}
 
 -- the first line was taken through lines of which none was read yet
 pub first_taken : (fresh read kept : Lines) (report left : Option (List ℕ)) (text : List ℕ) → left_in fresh report ≡ report → kept ≡ read → Consumes (left_in fresh report) (left_in read left) text
@@ -59,23 +60,22 @@ fresh_so_far viewer asked form lines input reader read read_left written written
     }
 
 -- the whole run was viewed as the words ask
-pub viewed_fresh : (viewer : Viewer) (asked : Asked) (form : Form) (lines : Lines) (input : Input) (reader : Reading) (read written printed report behind now : Option (List ℕ))
+pub viewed_fresh : (viewer : Viewer) (asked : Asked) (form : Form) (lines : Lines) (input : Input) (reader : Reading) (read written printed report behind now : Option (List ℕ)) (answered : ℕ)
     → IsFresh viewer asked form lines input reader → reader.head.link ≡ (head_in input).link → Consumes report behind (heading form)
-    → Whole viewer.asked viewer.form viewer.files.head reader.head (ends_of read written printed) now behind → ViewedAs asked read written report printed now
-viewed_fresh viewer asked form lines input reader read written printed report behind now fresh same first whole =
-    let A : Asked → Type 0 = λ a. Whole a viewer.form viewer.files.head reader.head (ends_of read written printed) now behind in
-    let V : Form → Type 0 = λ f. Whole asked f viewer.files.head reader.head (ends_of read written printed) now behind in
+    → Whole viewer.asked viewer.form viewer.files.head reader.head (ends_of read written printed) now behind answered → ViewedAs asked read written report printed now answered
+viewed_fresh viewer asked form lines input reader read written printed report behind now answered fresh same first whole =
+    let A : Asked → Type 0 = λ a. Whole a viewer.form viewer.files.head reader.head (ends_of read written printed) now behind answered in
+    let V : Form → Type 0 = λ f. Whole asked f viewer.files.head reader.head (ends_of read written printed) now behind answered in
     let L : Head → Type 0 = λ h. reader.head.link ≡ h.link in
-    viewed_as asked form viewer.files.head reader.head read written printed report behind now (subst L (sym fresh.head_is) same) first (subst V fresh.form_is (subst A fresh.asked_is whole))
+    viewed_as asked form viewer.files.head reader.head read written printed report behind now answered (subst L (sym fresh.head_is) same) first (subst V fresh.form_is (subst A fresh.asked_is whole))
 
 -- a view stops behind the first line of the report
 pub stops_within : (viewer : Viewer) (asked : Asked) (form : Form) (lines : Lines) (input : Input) (reader : Reading)
-    (read written report behind printed printed_now : Option (List ℕ)) (first last wide : FaultCounts) (stop : Stop)
-    → (SourceRose first last → SourceRose wide last) → first.out ≡ wide.out → IsFresh viewer asked form lines input reader → reader.head.link ≡ (head_in input).link → Consumes report behind (heading form)
+    (read written report behind printed printed_now : Option (List ℕ)) (first : FaultCounts) (last : Moment) (wide : FaultCounts) (stop : Stop)
+    → Wider first last wide last → IsFresh viewer asked form lines input reader → reader.head.link ≡ (head_in input).link → Consumes report behind (heading form)
     → EntriesStop viewer.asked (sources_of read written behind) viewer.form viewer.files.head reader.head printed printed_now first last stop
     → FilesStop asked (sources_of read written report) printed printed_now wide last stop
-stops_within viewer asked form lines input reader read written report behind printed printed_now first last wide stop wider same_out fresh same taken stops =
-    let R : ℕ → Type 0 = λ n. Rose first.out last.out → Rose n last.out in
+stops_within viewer asked form lines input reader read written report behind printed printed_now first last wide stop wider fresh same taken stops =
     let L : Head → Type 0 = λ h. reader.head.link ≡ h.link in
     inr
     (record {
@@ -86,7 +86,7 @@ stops_within viewer asked form lines input reader read written report behind pri
       link_is = subst L (sym fresh.head_is) same;
       first = taken;
       stops =
-          entries_wider asked (sources_of read written behind) form viewer.files.head reader.head printed printed_now first last wide last stop wider (subst R same_out (λ rose. rose))
+          entries_wider asked (sources_of read written behind) form viewer.files.head reader.head printed printed_now first last wide last stop wider
           (behind_at fresh.asked_is fresh.form_is refl stops);
     })
 
@@ -97,9 +97,9 @@ none_taken (Some octets) = refl
 
 -- what stands before the first record was not printed
 pub opening_stops : (viewer : Viewer) (asked : Asked) (form : Form) (lines : Lines) (input : Input) (reader : Reading)
-    (read read_left written written_left report behind printed printed_now : Option (List ℕ)) (first last : FaultCounts) (before after : ℕ)
+    (read read_left written written_left report behind printed printed_now : Option (List ℕ)) (first : FaultCounts) (last : Moment) (before after : ℕ)
     (stop : Stop)
-    → (Rose before after → Rose first.out last.out) → IsFresh viewer asked form lines input reader → reader.head.link ≡ (head_in input).link
+    → (Rose before after → Rose first.out last.out.faults) → IsFresh viewer asked form lines input reader → reader.head.link ≡ (head_in input).link
     → Consumes report behind (heading form)
     → InputOpened input read read_left → OutputAt reader reader.head written written_left []
     → PrintStops printed printed_now before after (opening asked.print) stop

@@ -8,11 +8,12 @@ use Rattle.run_view.specs.Eras.{PlainRow, changed, named, no_row}
 use Rattle.run_view.specs.Rows.{plain_pair, plain_row, rows_of}
 
 -- a row is written over that of an era in the table
-pub changed_by_set : (es : List (ℕ × EraRow)) (era : ℕ) (v w : EraRow) (f : PlainRow → PlainRow) → lookup (nat_eq era) es ≡ Some v → plain_row w ≡ f (plain_row v)
-    → rows_of (set_value (nat_eq era) es w) ≡ changed era f (rows_of es)
+pub changed_by_set : (es : List (ℕ × EraRow)) (era : ℕ) (v w : EraRow) (f : PlainRow → PlainRow) → lookup (nat_eq era) es ≡ Some v
+    → plain_row w ≡ f (plain_row v) → rows_of (set_value (nat_eq era) es w) ≡ changed era f (rows_of es)
 changed_by_set [] era v w f there is = cc
 changed_by_set (e ∷ es) era v w f there is = by (nat_eq era e.0) refl (λ found. changed_by_set es era v w f found is) there where
-  by : (b : Bool) → nat_eq era e.0 ≡ b → (lookup (nat_eq era) es ≡ Some v → rows_of (set_value (nat_eq era) es w) ≡ changed era f (rows_of es)) → cond b (Some e.1) (lookup (nat_eq era) es) ≡ Some v
+  by : (b : Bool) → nat_eq era e.0 ≡ b → (lookup (nat_eq era) es ≡ Some v → rows_of (set_value (nat_eq era) es w) ≡ changed era f (rows_of es))
+      → cond b (Some e.1) (lookup (nat_eq era) es) ≡ Some v
       → rows_of (cond b ((e.0, w) ∷ es) (e ∷ set_value (nat_eq era) es w)) ≡ (if b then (e.0, f (plain_row e.1)) ∷ rows_of es else plain_pair e ∷ changed era f (rows_of es))
   by true at rest found = let same : e.1 ≡ v = cc in ap (λ r. (e.0, r) ∷ rows_of es) (is ∙ sym (ap (λ x. f (plain_row x)) same))
   by false at rest found = ap (λ l. plain_pair e ∷ l) (rest found)
@@ -22,7 +23,8 @@ pub named_new : (es : List (ℕ × EraRow)) (era : ℕ) (w : EraRow) → lookup 
     → rows_of (insert_entry nat_eq es era w) ≡ named era (rows_of es)
 named_new [] era w none is = ap (λ r. (era, r) ∷ []) is
 named_new (e ∷ es) era w none is = by (nat_eq era e.0) refl (λ found. named_new es era w found is) none where
-  by : (b : Bool) → nat_eq era e.0 ≡ b → (lookup (nat_eq era) es ≡ None → rows_of (insert_entry nat_eq es era w) ≡ named era (rows_of es)) → cond b (Some e.1) (lookup (nat_eq era) es) ≡ None
+  by : (b : Bool) → nat_eq era e.0 ≡ b → (lookup (nat_eq era) es ≡ None → rows_of (insert_entry nat_eq es era w) ≡ named era (rows_of es))
+      → cond b (Some e.1) (lookup (nat_eq era) es) ≡ None
       → rows_of (if b then (e.0, w) ∷ es else e ∷ insert_entry nat_eq es era w) ≡ (if b then plain_pair e ∷ rows_of es else plain_pair e ∷ named era (rows_of es))
   by true at rest found = cc
   by false at rest found = ap (λ l. plain_pair e ∷ l) (rest found)
@@ -31,7 +33,8 @@ named_new (e ∷ es) era w none is = by (nat_eq era e.0) refl (λ found. named_n
 pub named_there : (es : List (ℕ × EraRow)) (era : ℕ) → is_some (lookup (nat_eq era) es) ≡ true → rows_of es ≡ named era (rows_of es)
 named_there [] era there = cc
 named_there (e ∷ es) era there = by (nat_eq era e.0) refl (named_there es era) there where
-  by : (b : Bool) → nat_eq era e.0 ≡ b → (is_some (lookup (nat_eq era) es) ≡ true → rows_of es ≡ named era (rows_of es)) → is_some (cond b (Some e.1) (lookup (nat_eq era) es)) ≡ true
+  by : (b : Bool) → nat_eq era e.0 ≡ b → (is_some (lookup (nat_eq era) es) ≡ true → rows_of es ≡ named era (rows_of es))
+      → is_some (cond b (Some e.1) (lookup (nat_eq era) es)) ≡ true
       → (plain_pair e ∷ rows_of es) ≡ (if b then plain_pair e ∷ rows_of es else plain_pair e ∷ named era (rows_of es))
   by true at rest found = refl
   by false at rest found = ap (λ l. plain_pair e ∷ l) (rest found)

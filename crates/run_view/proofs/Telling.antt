@@ -1,52 +1,63 @@
 -- What is told at a stop.
-use Rattle.std.proofs.Common.{◌≡◌, ◌⊎◌, ℕ, Bool, List, Option, Some, refl, sym, subst, ◌∙◌, inl, inr}
+use Rattle.std.proofs.Common.{◌≡◌, ◌⊎◌, ◌≤◌, arith, ℕ, ◌==◌, ◌||◌, Bool, true, false, List, Option, Some, refl, sym, ap, subst, ◌∙◌, inl, inr}
 use Rattle.edge_io.specs.Faults.{Rose}
 use Rattle.capture_input.specs.declared.fault.InputFault.{InputFault}
 use Rattle.capture_input.specs.declared.fault.InputFault.TheVariants as faults
 use Rattle.run_view.specs.declared.form.Form.{Form}
 use Rattle.run_view.specs.declared.stop.Stop.{Stop}
 use Rattle.run_view.specs.declared.stop.Stop.TheVariants as stops
-use Rattle.run_view.specs.Causes.{EntriesStop, FaultCounts, FilesStop, PrintedBefore, Sources, counts_of, sources_of}
+use Rattle.run_view.specs.Causes.{EntriesStop, FaultCounts, FilesStop, PrintedBefore, Sources, sources_of}
+use Rattle.run_view.specs.Standing.{seen_of}
 use Rattle.run_view.specs.Items.{Item}
 use Rattle.run_view.specs.View.{closing_text, items_text}
-use Rattle.run_view.proofs.Whys.{entries_wider, items_alone}
+use Rattle.run_view.proofs.Whys.{items_alone}
+use Rattle.run_view.proofs.Widenings.{entries_wider}
 use Rattle.run_view.specs.Words.{asked_in, asks_json}
 use Rattle.run_view.specs.declared.words.Asked.{Asked}
 use Rattle.pcap_file.specs.declared.head.Head.{Head}
 use Rattle.run_view.specs.Stops.{HasLine, fault_status, status_of, stop_format, stop_line}
 use Rattle.view_text.specs.declared.view.Format.{Format}
-use Rattle.run_view.specs.Viewed.{Cause, Moment, Stopped, Tells, TellsLine, faults_of, sources_at}
+use Rattle.run_view.specs.Viewed.{Cause, IsToItsEnd, Moment, Stopped, Tells, TellsLine, faults_of, sources_at}
 
-fault_not_none : (fault : InputFault) → fault_status fault ≡ 0 → ⊥
-fault_not_none faults.Cut is = cc
-fault_not_none faults.Magic is = cc
-fault_not_none faults.Version is = cc
-fault_not_none faults.Link is = cc
-fault_not_none faults.Block is = cc
-fault_not_none faults.Long is = cc
-fault_not_none faults.Many is = cc
-fault_not_none faults.ReadFault is = cc
+-- a view that ends with this status was printed to its end
+abbrev is_end : (status : ℕ) → Bool
+is_end status = (status == 0) || (status == 10)
 
-not_none : (stop : Stop) → status_of stop ≡ 0 → ⊥
-not_none stops.Words is = cc
-not_none (stops.Record number) is = cc
-not_none (stops.Frame number) is = cc
-not_none (stops.Input fault offset) is = fault_not_none fault is
-not_none (stops.Output fault offset) is = fault_not_none fault is
-not_none stops.Unread is = cc
-not_none stops.Unwritten is = cc
-not_none stops.Memory is = cc
-not_none (stops.Report line) is = cc
+ends_so : (status : ℕ) → IsToItsEnd status → is_end status ≡ true
+ends_so status (inl is) = rw is refl
+ends_so status (inr is) = rw is refl
 
-line_not_none : (status answered : ℕ) (line : List ℕ) (old new : Option (List ℕ)) (before now : ℕ) → (status ≡ 0 → ⊥) → TellsLine status line old new before now answered → answered ≡ 0 → ⊥
-line_not_none status answered line old new before now some (inl told) is = some (sym told.status_is ∙ is)
-line_not_none status answered line old new before now some (inr told) is = let seven = told.status_is in cc
+fault_no_end : (fault : InputFault) → is_end (fault_status fault) ≡ false
+fault_no_end faults.Cut = refl
+fault_no_end faults.Magic = refl
+fault_no_end faults.Version = refl
+fault_no_end faults.Link = refl
+fault_no_end faults.Block = refl
+fault_no_end faults.Long = refl
+fault_no_end faults.Many = refl
+fault_no_end faults.ReadFault = refl
 
--- the status of a stop is not 0
-pub told_not_none : (format : Format) (stop : Stop) (answered : ℕ) (old new : Option (List ℕ)) (before now : ℕ)
-    → Tells format stop old new before now answered → answered ≡ 0 → ⊥
-told_not_none format stop answered old new before now (inl told) is = line_not_none (status_of stop) answered (stop_line format stop) old new before now (not_none stop) told is
-told_not_none format stop answered old new before now (inr memory) is = line_not_none 8 answered (stop_line format stops.Memory) old new before now (not_none stops.Memory) memory.told is
+no_end : (stop : Stop) → is_end (status_of stop) ≡ false
+no_end stops.Words = refl
+no_end (stops.Record number) = refl
+no_end (stops.Frame number) = refl
+no_end (stops.Input fault offset) = fault_no_end fault
+no_end (stops.Output fault offset) = fault_no_end fault
+no_end stops.Unread = refl
+no_end stops.Unwritten = refl
+no_end stops.Memory = refl
+no_end (stops.Report line) = refl
+
+line_no_end : (status answered : ℕ) (line : List ℕ) (old new : Option (List ℕ)) (before now : ℕ) → is_end status ≡ false → TellsLine status line old new before now answered
+    → IsToItsEnd answered → ⊥
+line_no_end status answered line old new before now none (inl told) is = let e = sym none ∙ sym (ap is_end told.status_is) ∙ ends_so answered is in cc
+line_no_end status answered line old new before now none (inr told) is = let e = sym (ap is_end told.status_is) ∙ ends_so answered is in cc
+
+-- a stop does not have the status of a view that was printed to its end
+pub told_no_end : (format : Format) (stop : Stop) (answered : ℕ) (old new : Option (List ℕ)) (before now : ℕ)
+    → Tells format stop old new before now answered → IsToItsEnd answered → ⊥
+told_no_end format stop answered old new before now (inl told) is = line_no_end (status_of stop) answered (stop_line format stop) old new before now (no_end stop) told is
+told_no_end format stop answered old new before now (inr memory) is = line_no_end 8 answered (stop_line format stops.Memory) old new before now refl memory.told is
 
 -- the same where memory could not be allocated for the line of a stop
 memory_text : (asked : Asked) (form : Form) (head : Head) (items : List Item) (old now : Option (List ℕ)) (over : Type 0) (stop : Stop) → PrintedBefore asked form head items old now over stop → PrintedBefore asked form head items old now over stops.Memory
@@ -60,14 +71,14 @@ memory_text asked form head items old now over stops.Unwritten text = items_alon
 memory_text asked form head items old now over stops.Memory text = text
 memory_text asked form head items old now over (stops.Report n) text = items_alone old now (items_text asked form head items) (closing_text asked form head items) over text
 
-memory_entries : (asked : Asked) (s : Sources) (form : Form) (head written : Head) (old now : Option (List ℕ)) (first last : FaultCounts)
+memory_entries : (asked : Asked) (s : Sources) (form : Form) (head written : Head) (old now : Option (List ℕ)) (first : FaultCounts) (last : Moment)
     (stop : Stop) → HasLine stop → EntriesStop asked s form head written old now first last stop
     → EntriesStop asked s form head written old now first last stops.Memory
 memory_entries asked s form head written old now first last stop has (inl unwritten) = let none = subst HasLine unwritten.stop_is has in cc
 memory_entries asked s form head written old now first last stop has (inr stops) =
     inr (record { items = stops.items; left = stops.left; give = stops.give; why = tt; text = memory_text asked form head stops.items old now _ stop stops.text })
 
-memory_files : (asked : Asked) (s : Sources) (old now : Option (List ℕ)) (first last : FaultCounts) (stop : Stop) → HasLine stop
+memory_files : (asked : Asked) (s : Sources) (old now : Option (List ℕ)) (first : FaultCounts) (last : Moment) (stop : Stop) → HasLine stop
     → FilesStop asked s old now first last stop → FilesStop asked s old now first last stops.Memory
 memory_files asked s old now first last stop has (inl before) = inl (record { why = tt; text = before.text })
 memory_files asked s old now first last stop has (inr within) =
@@ -85,7 +96,7 @@ memory_files asked s old now first last stop has (inr within) =
 memory_cause : (words : List (List ℕ)) (before after : Moment) (mid : Option (List ℕ)) (stop : Stop) → HasLine stop → Cause words before after mid stop → Cause words before after mid stops.Memory
 memory_cause words before after mid stop has (inl refused) = inl (record { none = refused.none; stop_is = inr refl; text = refused.text })
 memory_cause words before after mid stop has (inr stopped) =
-    inr (record { asked = stopped.asked; accepted = stopped.accepted; why = memory_files stopped.asked (sources_at before) before.out.octets mid (faults_of before) (faults_of after) stop has stopped.why })
+    inr (record { asked = stopped.asked; accepted = stopped.accepted; why = memory_files stopped.asked (sources_at before) before.out.octets mid (faults_of before) after stop has stopped.why })
 
 told_wider : (status : ℕ) (line : List ℕ) (mid now : Option (List ℕ)) (before mid_faults after answered : ℕ)
     → (Rose mid_faults after → Rose before after)
@@ -118,9 +129,9 @@ stopped_by words before after mid mid_faults json stop answered is wider cause t
 
 -- the cause of a stop of a view whose words were accepted
 pub cause_of : (words : List (List ℕ)) (before after : Moment) (mid : Option (List ℕ)) (mid_faults : ℕ) (asked : Asked) (stop : Stop) → asked_in words ≡ Some asked
-    → (Rose before.out.faults mid_faults → Rose before.out.faults after.out.faults)
-    → FilesStop asked (sources_at before) before.out.octets mid (faults_of before)
-    (counts_of after.input.faults after.output.faults after.report.faults mid_faults) stop → Cause words before after mid stop
+    → mid_faults ≤ after.out.faults
+    → FilesStop asked (sources_at before) before.out.octets mid (faults_of before) (record after { out = seen_of mid mid_faults }) stop
+    → Cause words before after mid stop
 cause_of words before after mid mid_faults asked stop accepted wider (inl stops) = inr (record { asked = asked; accepted = accepted; why = inl stops })
 cause_of words before after mid mid_faults asked stop accepted wider (inr within) =
     inr
@@ -137,8 +148,16 @@ cause_of words before after mid mid_faults asked stop accepted wider (inr within
             link_is = within.link_is;
             first = within.first;
             stops =
-                entries_wider asked (sources_of before.input.octets before.output.octets within.behind) within.form within.head within.written before.out.octets mid (faults_of before)
-                (counts_of after.input.faults after.output.faults after.report.faults mid_faults) (faults_of before) (faults_of after) stop (λ rose. rose) wider within.stops;
+                entries_wider asked (sources_of before.input.octets before.output.octets within.behind) within.form within.head within.written before.out.octets mid
+                (faults_of before) (record after { out = seen_of mid mid_faults }) (faults_of before) after stop
+                (record {
+                  lower = record { input = omega arith; output = omega arith; report = omega arith; out = omega arith };
+                  input = refl;
+                  output = refl;
+                  report = refl;
+                  out = wider;
+                })
+                within.stops;
           });
     })
 

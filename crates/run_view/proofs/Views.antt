@@ -25,4 +25,5 @@ pub summary_printed : (format : Format) (shown view : PlainSummary) (line octets
     → line ≡ line_of format (summary_fields shown) → shown ≡ view
     → octets ≡ line → Appends old now octets → Appends old now (summary_line format view)
 unfolding summary_line
-summary_printed format shown view line octets old now is same own prints = subst (Appends old now) (own ∙ is ∙ ap (λ x. line_of format (summary_fields x)) same) prints
+summary_printed format shown view line octets old now is same own prints =
+    subst (Appends old now) (own ∙ is ∙ ap (λ x. line_of format (summary_fields x)) same) prints

@@ -1,9 +1,9 @@
--- Where a view stops, and why (this project's profile): the items that the three sources give up to there, and what is amiss behind them. Lists of items,
--- records and frames have the newest at the head. A source without known octets (None) claims nothing of its own.
+-- Where a view stops, and why (this project's profile): the items that the three sources give up to there, and what is amiss behind them. Lists of
+-- items, records and frames have the newest at the head. A source without known octets (None) claims nothing of its own.
 use Rattle.std.specs.Prelude.{◌≡◌, ◌≢◌, ◌⊎◌, ℕ, ◌+◌, ◌<◌, Bool, true, false, List, [], ◌∷◌, ◌++◌, length, Option, None, IfSome}
 use Rattle.std.specs.Io.KnownBytes.{Appends, Consumes}
 use Rattle.edge_io.specs.Faults.{Rose}
-use Rattle.edge_io.specs.Octets.{AppendsPart}
+use Rattle.edge_io.specs.Octets.{AppendsPart, TakesFewer}
 use Rattle.pcap_file.specs.declared.head.Head.{Head}
 use Rattle.pcap_file.specs.Records.{Packet}
 use Rattle.pcap_file.specs.Capture.{IsCapture}
@@ -16,7 +16,7 @@ use Rattle.rule_book.specs.declared.last.Last.TheVariants.{End}
 use Rattle.run_view.specs.Forms.{heading, own_frames, version_of}
 use Rattle.run_view.specs.Items.{AreItems, Item, end_text, firsts, frames_of, lines_of, lines_text, owed_of, packets_of, text_by, turn_of, waits}
 use Rattle.run_view.specs.Printed.{AreWholeLines}
-use Rattle.run_view.specs.Standing.{BeginsWithFrames, BeginsWithRecords, HaveHeads, InputFailsBehind, InputHeadFails, OutputBeginsAmiss, OutputFailsBehind}
+use Rattle.run_view.specs.Standing.{BeginsWithFrames, BeginsWithRecords, HaveHeads, InputFailsBehind, InputHeadFails, InputUnread, OutputBeginsAmiss, OutputFailsBehind, OutputUnread, Seen, seen_of}
 use Rattle.run_view.specs.View.{closing_text, items_text}
 use Rattle.run_view.specs.declared.form.Form.{Form}
 use Rattle.run_view.specs.declared.stop.Stop.{Stop}
@@ -43,13 +43,37 @@ pub record FaultCounts : Type 0 where
 abbrev pub counts_of : (input output report out : ℕ) → FaultCounts
 counts_of input output report out = record { input = input; output = output; report = report; out = out }
 
+-- the three sources and the output, at a moment
+pub record Moment : Type 0 where
+  pub input : Seen
+  pub output : Seen
+  pub report : Seen
+  pub out : Seen
+
+-- the same, of these octets and counts
+abbrev pub moment_of : (input : Option (List ℕ)) (input_faults : ℕ) (output : Option (List ℕ)) (output_faults : ℕ)
+    (report : Option (List ℕ)) (report_faults : ℕ) (out : Option (List ℕ)) (out_faults : ℕ) → Moment
+moment_of input input_faults output output_faults report report_faults out out_faults =
+    record {
+      input = seen_of input input_faults;
+      output = seen_of output output_faults;
+      report = seen_of report report_faults;
+      out = seen_of out out_faults;
+    }
+
+-- how often the four have failed
+abbrev pub faults_of : Moment → FaultCounts
+faults_of moment = counts_of moment.input.faults moment.output.faults moment.report.faults moment.out.faults
+
 -- one of the three sources failed: its count of faults rose, or is at its last value, as wherever it is said that a source or the output failed
 abbrev pub SourceRose : (before now : FaultCounts) → Type 0
 SourceRose before now = Rose before.input now.input ⊎ Rose before.output now.output ⊎ Rose before.report now.report
 
--- the octets begin neither with the line of an entry of this version that may stand there nor, where no line of the second engine is wanting, with the last line
+-- the octets begin neither with the line of an entry of this version that may stand there nor, where no line of the second engine is wanting, with
+-- the last line
 pub record IsNoNext (version : ℕ) (turn : Turn) (octets : List ℕ) : Type 0 where
-  pub entry : (entry : PlainEntry) → IsEntryOf version entry → entry.number ≡ turn.done + 1 → (rest : List ℕ) → octets ≢ text_by turn.second entry ++ rest
+  pub entry : (entry : PlainEntry) → IsEntryOf version entry → entry.number ≡ turn.done + 1 → (rest : List ℕ)
+      → octets ≢ text_by turn.second entry ++ rest
   pub last : turn.second ≡ false → (rest : List ℕ) → octets ≢ last_text (End turn.done turn.frames) ++ rest
 
 -- there is an octet
@@ -64,8 +88,8 @@ pub record ToldNext (version : ℕ) (turn : Turn) (report left : Option (List �
   pub fits : IsEntryOf version entry
   pub number : entry.number ≡ turn.done + 1
 
--- The three sources give these items: the input begins with their records, the output with their frames, and the report, behind its first line, with their
--- lines; `left` is what the report has behind them.
+-- The three sources give these items: the input begins with their records, the output with their frames, and the report, behind its first line, with
+-- their lines; `left` is what the report has behind them.
 pub record GiveItems (s : Sources) (form : Form) (head written : Head) (items : List Item) (left : Option (List ℕ)) : Type 0 where
   pub are : AreItems form items
   pub records : BeginsWithRecords s.input head (packets_of items)
@@ -142,12 +166,14 @@ pub record HasFirstLine (form : Form) (items : List Item) (left : Option (List �
   pub none_owed : owed_of items ≡ 0
 
 -- the input has a fault right behind the records of the items, where the report has one more line of the first engine, or is over
-pub record FailsAtRecord (s : Sources) (form : Form) (head : Head) (items : List Item) (left : Option (List ℕ)) (fault : InputFault) (offset : ℕ) : Type 0 where
+pub record FailsAtRecord (s : Sources) (form : Form) (head : Head) (items : List Item) (left : Option (List ℕ)) (fault : InputFault)
+    (offset : ℕ) : Type 0 where
   pub wanted : HasFirstLine form items left ⊎ IsOver items left
   pub fails : InputFailsBehind s.input head (packets_of items) fault offset
 
 -- the report has one more line, and the input its record, and the output a fault in a frame that the line counts, right behind those before it
-pub record FailsAtFrame (s : Sources) (form : Form) (head written : Head) (items : List Item) (left : Option (List ℕ)) (fault : InputFault) (offset : ℕ) : Type 0 where
+pub record FailsAtFrame (s : Sources) (form : Form) (head written : Head) (items : List Item) (left : Option (List ℕ)) (fault : InputFault)
+    (offset : ℕ) : Type 0 where
   pub entry : PlainEntry
   pub line : HasNextLine form items left entry
   pub record_is : HasRecordOf (waits (owed_of items)) s.input head (packets_of items)
@@ -156,7 +182,8 @@ pub record FailsAtFrame (s : Sources) (form : Form) (head written : Head) (items
   pub fails : OutputFailsBehind s.output written (own ++ frames_of items) fault offset
 
 -- report and input are over, and the output has a fault right behind the frames of the items
-pub record FailsAtEnd (s : Sources) (head written : Head) (items : List Item) (left : Option (List ℕ)) (fault : InputFault) (offset : ℕ) : Type 0 where
+pub record FailsAtEnd (s : Sources) (head written : Head) (items : List Item) (left : Option (List ℕ)) (fault : InputFault)
+    (offset : ℕ) : Type 0 where
   pub over : IsOver items left
   pub whole : TookAll None s.input head (packets_of items)
   pub fails : OutputFailsBehind s.output written (frames_of items) fault offset
@@ -179,8 +206,8 @@ pub record AreOver (s : Sources) (head written : Head) (items : List Item) (left
   pub records : TookAll None s.input head (packets_of items)
   pub frames : IfSome s.output (λ octets. IsCapture octets written (frames_of items))
 
--- the text of items was printed, and behind it whole lines from the front of what is printed at the end of a run that has no others; if there are such lines,
--- the sources are over
+-- the text of items was printed, and behind it whole lines from the front of what is printed at the end of a run that has no others; if there are
+-- such lines, the sources are over
 pub record PrintsBehind (old now : Option (List ℕ)) (items closing : List ℕ) (over : Type 0) : Type 0 where
   pub more : List ℕ
   pub rest : List ℕ
@@ -189,38 +216,82 @@ pub record PrintsBehind (old now : Option (List ℕ)) (items closing : List ℕ)
   pub whole : AreWholeLines more
   pub at_end : (more ≡ []) ⊎ over
 
--- what was printed before a stop behind these items: their text; if memory could not be allocated, maybe whole lines behind it, the first of those that end
--- a run with exactly these items, and then the sources are over
+-- what was printed before a stop behind these items: their text; if memory could not be allocated, maybe whole lines behind it, the first of those
+-- that end a run with exactly these items, and then the sources are over
 abbrev pub PrintedBefore : (asked : Asked) (form : Form) (head : Head) (items : List Item) (old now : Option (List ℕ)) (over : Type 0) → Stop → Type 0
-PrintedBefore asked form head items old now over stops.Memory = PrintsBehind old now (items_text asked form head items) (closing_text asked form head items) over
+PrintedBefore asked form head items old now over stops.Memory =
+    PrintsBehind old now (items_text asked form head items) (closing_text asked form head items) over
 PrintedBefore asked form head items old now over _ = Appends old now (items_text asked form head items)
 
--- why a view stops behind these items; `rose` says that a source failed. That memory could not be allocated has no cause in the files.
-abbrev pub WhyBehind : (s : Sources) (form : Form) (head written : Head) (items : List Item) (left : Option (List ℕ)) (rose : Type 0) → Stop → Type 0
-WhyBehind s form head written items left rose (stops.Record number) = LacksRecord s form head items left number ⊎ HasRecordMore s head items left number
-WhyBehind s form head written items left rose (stops.Frame number) =
+-- the input failed right behind the records of the items, where the report has one more line of the first engine, or is over
+pub record UnreadAtRecord (s : Sources) (form : Form) (head : Head) (items : List Item) (left : Option (List ℕ)) (before : FaultCounts)
+    (now : Moment) : Type 0 where
+  pub wanted : HasFirstLine form items left ⊎ IsOver items left
+  pub unread : InputUnread s.input head (packets_of items) before.input now.input
+
+-- the report has one more line, and the input its record, and the output failed in a frame that the line counts, right behind those before it
+pub record UnreadAtFrame (s : Sources) (form : Form) (head written : Head) (items : List Item) (left : Option (List ℕ)) (before : FaultCounts)
+    (now : Moment) : Type 0 where
+  pub entry : PlainEntry
+  pub line : HasNextLine form items left entry
+  pub record_is : HasRecordOf (waits (owed_of items)) s.input head (packets_of items)
+  pub own : List Packet
+  pub fewer : length own < frames_by (waits (owed_of items)) form entry
+  pub unread : OutputUnread s.output written (own ++ frames_of items) before.output now.output
+
+-- report and input are over, and the output failed right behind the frames of the items
+pub record UnreadAtEnd (s : Sources) (head written : Head) (items : List Item) (left : Option (List ℕ)) (before : FaultCounts)
+    (now : Moment) : Type 0 where
+  pub over : IsOver items left
+  pub whole : TookAll None s.input head (packets_of items)
+  pub unread : OutputUnread s.output written (frames_of items) before.output now.output
+
+-- The report, which is read ahead, failed behind the lines of the items, or behind the last line of a run of them: fewer than 4,096 octets were taken
+-- behind.
+pub record UnreadAtLine (items : List Item) (left : Option (List ℕ)) (before : FaultCounts) (now : Moment) : Type 0 where
+  pub rose : Rose before.report now.report.faults
+  pub behind : Option (List ℕ)
+  pub lines : (behind ≡ left) ⊎ TookLast items left behind
+  pub part : TakesFewer behind now.report.octets 4096
+
+-- A source failed. What was taken of the input or of the output up to there is what the items have of it, and of what was wanted next only a part.
+abbrev pub UnreadBehind : (s : Sources) (form : Form) (head written : Head) (items : List Item) (left : Option (List ℕ)) (before : FaultCounts)
+    (now : Moment) → Type 0
+UnreadBehind s form head written items left before now =
+    UnreadAtLine items left before now
+    ⊎ (UnreadAtRecord s form head items left before now
+    ⊎ (UnreadAtFrame s form head written items left before now ⊎ UnreadAtEnd s head written items left before now))
+
+-- why a view stops behind these items; that memory could not be allocated has no cause in the files
+abbrev pub WhyBehind : (s : Sources) (form : Form) (head written : Head) (items : List Item) (left : Option (List ℕ)) (before : FaultCounts)
+    (now : Moment) → Stop → Type 0
+WhyBehind s form head written items left before now (stops.Record number) =
+    LacksRecord s form head items left number ⊎ HasRecordMore s head items left number
+WhyBehind s form head written items left before now (stops.Frame number) =
     LacksFrame s form head written items left number ⊎ HasFrameMore s head written items left number
-WhyBehind s form head written items left rose (stops.Report line) = HasLineAmiss form items left line ⊎ HasLineMore items left line
-WhyBehind s form head written items left rose (stops.Input fault offset) = FailsAtRecord s form head items left fault offset
-WhyBehind s form head written items left rose (stops.Output fault offset) =
+WhyBehind s form head written items left before now (stops.Report line) = HasLineAmiss form items left line ⊎ HasLineMore items left line
+WhyBehind s form head written items left before now (stops.Input fault offset) = FailsAtRecord s form head items left fault offset
+WhyBehind s form head written items left before now (stops.Output fault offset) =
     FailsAtFrame s form head written items left fault offset ⊎ FailsAtEnd s head written items left fault offset
-WhyBehind s form head written items left rose stops.Unread = rose
-WhyBehind s form head written items left rose stops.Memory = Unit {0}
-WhyBehind s form head written items left rose _ = ⊥
+WhyBehind s form head written items left before now stops.Unread = UnreadBehind s form head written items left before now
+WhyBehind s form head written items left before now stops.Memory = Unit {0}
+WhyBehind s form head written items left before now _ = ⊥
 
 -- a view stops behind the items that the three sources give; the report is what stands behind its first line
-pub record StopsBehind (asked : Asked) (s : Sources) (form : Form) (head written : Head) (printed printed_now : Option (List ℕ)) (rose : Type 0) (stop : Stop) : Type 0 where
+pub record StopsBehind (asked : Asked) (s : Sources) (form : Form) (head written : Head) (printed printed_now : Option (List ℕ))
+    (before : FaultCounts) (now : Moment) (stop : Stop) : Type 0 where
   pub items : List Item
   pub left : Option (List ℕ)
   pub give : GiveItems s form head written items left
-  pub why : WhyBehind s form head written items left rose stop
+  pub why : WhyBehind s form head written items left before now stop
   pub text : PrintedBefore asked form head items printed printed_now (AreOver s head written items left) stop
 
--- The output failed, and a prefix of the text of the items that the three sources give was given to it, or of that and what is printed at the end of a run that
--- has no others, where the sources are over.
-pub record IsUnwritten (asked : Asked) (s : Sources) (form : Form) (head written : Head) (printed printed_now : Option (List ℕ)) (before now : FaultCounts) (stop : Stop) : Type 0 where
+-- The output failed, and a prefix of the text of the items that the three sources give was given to it, or of that and what is printed at the end of
+-- a run that has no others, where the sources are over.
+pub record IsUnwritten (asked : Asked) (s : Sources) (form : Form) (head written : Head) (printed printed_now : Option (List ℕ))
+    (before : FaultCounts) (now : Moment) (stop : Stop) : Type 0 where
   pub stop_is : stop ≡ stops.Unwritten
-  pub rose : Rose before.out now.out
+  pub rose : Rose before.out now.out.faults
   pub items : List Item
   pub left : Option (List ℕ)
   pub give : GiveItems s form head written items left
@@ -229,10 +300,11 @@ pub record IsUnwritten (asked : Asked) (s : Sources) (form : Form) (head written
   pub more_is : (more ≡ []) ⊎ ((more ≡ closing_text asked form head items) × AreOver s head written items left)
 
 -- why a view stops behind the first line of the report, which is read so
-abbrev pub EntriesStop : (asked : Asked) (s : Sources) (form : Form) (head written : Head) (printed printed_now : Option (List ℕ)) (before now : FaultCounts) → Stop → Type 0
+abbrev pub EntriesStop : (asked : Asked) (s : Sources) (form : Form) (head written : Head) (printed printed_now : Option (List ℕ))
+    (before : FaultCounts) (now : Moment) → Stop → Type 0
 EntriesStop asked s form head written printed printed_now before now stop =
     IsUnwritten asked s form head written printed printed_now before now stop
-    ⊎ StopsBehind asked s form head written printed printed_now (SourceRose before now) stop
+    ⊎ StopsBehind asked s form head written printed printed_now before now stop
 
 -- the octets do not begin with the first line of a report of one of the forms
 abbrev pub IsNoFirst : (octets : List ℕ) → Type 0
@@ -258,7 +330,8 @@ pub record StopsBefore (s : Sources) (printed printed_now : Option (List ℕ)) (
   pub text : Appends printed printed_now []
 
 -- a view stops behind the first line of the report
-pub record StopsWithin (asked : Asked) (s : Sources) (printed printed_now : Option (List ℕ)) (before now : FaultCounts) (stop : Stop) : Type 0 where
+pub record StopsWithin (asked : Asked) (s : Sources) (printed printed_now : Option (List ℕ)) (before : FaultCounts) (now : Moment)
+    (stop : Stop) : Type 0 where
   pub form : Form
   pub head : Head
   pub written : Head
@@ -268,6 +341,6 @@ pub record StopsWithin (asked : Asked) (s : Sources) (printed printed_now : Opti
   pub stops : EntriesStop asked (sources_of s.input s.output behind) form head written printed printed_now before now stop
 
 -- why a view stops whose words were accepted, and what was printed before
-abbrev pub FilesStop : (asked : Asked) (s : Sources) (printed printed_now : Option (List ℕ)) (before now : FaultCounts) → Stop → Type 0
+abbrev pub FilesStop : (asked : Asked) (s : Sources) (printed printed_now : Option (List ℕ)) (before : FaultCounts) (now : Moment) → Stop → Type 0
 FilesStop asked s printed printed_now before now stop =
-    StopsBefore s printed printed_now (SourceRose before now) stop ⊎ StopsWithin asked s printed printed_now before now stop
+    StopsBefore s printed printed_now (SourceRose before (faults_of now)) stop ⊎ StopsWithin asked s printed printed_now before now stop

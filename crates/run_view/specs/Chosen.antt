@@ -115,13 +115,15 @@ meets_all met = ((met.rule && met.era) && met.verdict) && meets_record met
 abbrev pub has_choice : Asked → Bool
 has_choice asked = is_some asked.rules || is_some asked.era || is_some asked.verdicts || is_some asked.sides || is_some asked.host
 
--- records are printed: as text only those that are chosen, and none in a table of eras
+-- records are printed: as text only those that are chosen, and none in a table of eras or where notes are asked for
 abbrev pub prints_records : Asked → Bool
 prints_records asked = elim asked.print [
   | prints.Text ↦ has_choice asked
   | prints.Json ↦ true
   | prints.Records ↦ true
   | prints.Eras ↦ false
+  | prints.Notes ↦ false
+  | prints.JsonNotes ↦ false
 ]
 
 -- the newest record is printed with these as its lines

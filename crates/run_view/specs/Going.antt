@@ -1,5 +1,5 @@
--- How a view goes on by a line of the report (this project's profile). Items are a list with the newest at the head; `report` is what the report had left
--- behind its first line, `left` what it had left before the line, and `next` what it has left behind it, where it tells them.
+-- How a view goes on by a line of the report (this project's profile). Items are a list with the newest at the head; `report` is what the report had
+-- left behind its first line, `left` what it had left before the line, and `next` what it has left behind it, where it tells them.
 use Rattle.std.specs.Prelude.{◌≡◌, ℕ, Bool, true, false, List, Option}
 use Rattle.std.specs.Io.KnownBytes.{Consumes}
 use Rattle.pcap_file.specs.declared.head.Head.{Head}

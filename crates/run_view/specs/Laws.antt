@@ -1,5 +1,5 @@
 -- Laws of the definitions of a view.
-use Rattle.std.specs.Prelude.{◌≡◌, ℕ, List, Some, None}
+use Rattle.std.specs.Prelude.{◌≡◌, ℕ, List, Option, Some, None}
 use Rattle.edge_io.specs.Faults.{Rose}
 use Rattle.pcap_file.specs.declared.head.Head.{Head}
 use Rattle.pcap_file.specs.Capture.{IsCapture}
@@ -7,9 +7,11 @@ use Rattle.capture_input.specs.Inputs.{IsInput}
 use Rattle.run_view.specs.Causes.{SourceRose}
 use Rattle.run_view.specs.Items.{Item, AreItems, frames_of, owed_of, packets_of}
 use Rattle.run_view.specs.Standing.{HasHead}
-use Rattle.run_view.specs.Viewed.{Moment, Stopped, faults_of, report_of}
+use Rattle.run_view.specs.Viewed.{Cause, Moment, Stopped, Viewed, faults_of, report_of}
 use Rattle.run_view.specs.Words.{asked_in}
 use Rattle.run_view.specs.declared.form.Form.{Form}
+use Rattle.run_view.specs.declared.stop.Stop.{Stop}
+use Rattle.run_view.specs.declared.stop.Stop.TheVariants as stops
 use Rattle.run_view.specs.declared.words.Asked.{Asked}
 
 -- the three files are those of a finished run: a capture, another of the same link, and the report, of the same items
@@ -39,5 +41,28 @@ pub record NothingFails (before now : Moment) : Type 0 where
 -- Where the words are accepted, the three files are those of a finished run, and nothing fails, a view that stops does so for want of memory.
 abbrev pub RunsAreViewed : Type 0
 RunsAreViewed =
-    (words : List (List ℕ)) (before now : Moment) (status : ℕ) (input output report : List ℕ) (asked : Asked) → asked_in words ≡ Some asked → HasFiles before input output report
+    (words : List (List ℕ)) (before now : Moment) (status : ℕ) (input output report : List ℕ) (asked : Asked)
+    → asked_in words ≡ Some asked → HasFiles before input output report
     → AreOfARun input output report → NothingFails before now → Stopped words before now status → status ≡ 8
+
+-- a stop that the words and the octets of the three files decide: memory could be allocated, and neither a source nor the output failed
+abbrev pub IsExact : Stop → Type 0
+IsExact stops.Unread = ⊥
+IsExact stops.Unwritten = ⊥
+IsExact stops.Memory = ⊥
+IsExact _ = Unit {0}
+
+-- Words and three files have a cause of at most one such stop, at whatever moments they are viewed and whatever was printed before.
+abbrev pub StopsAreOne : Type 0
+StopsAreOne =
+    (words : List (List ℕ)) (before now again later : Moment) (printed other_printed : Option (List ℕ)) (input output report : List ℕ)
+    (one other : Stop)
+    → HasFiles before input output report → HasFiles again input output report → IsExact one → IsExact other
+    → Cause words before now printed one → Cause words again later other_printed other → one ≡ other
+
+-- They have none where the run was viewed.
+abbrev pub ViewedHasNoStop : Type 0
+ViewedHasNoStop =
+    (words : List (List ℕ)) (before now : Moment) (printed old new : Option (List ℕ)) (input output report : List ℕ) (stop : Stop) (status : ℕ)
+    → HasFiles before input output report → IsExact stop → Viewed words (Some input) (Some output) (Some report) old new status
+    → Cause words before now printed stop → ⊥

@@ -7,6 +7,8 @@ use Rattle.wire_base.specs.declared.address.Link.{Link}
 use Rattle.frame_view.specs.Changes as changes
 use Rattle.rule_book.specs.Entries.{plain}
 use Rattle.rule_book.specs.declared.entry.Entry.{Entry}
+use Rattle.run_notes.specs.Counts.{plain_counts}
+use Rattle.run_notes.specs.Fragments.{number_count}
 use Rattle.view_text.specs.Views.{PlainRecord, PlainSummary}
 use Rattle.run_view.specs.declared.item.Gathered.{Gathered}
 use Rattle.run_view.specs.declared.stop.Stop.{Stop}
@@ -42,6 +44,9 @@ summary_shown both records frames tally =
       first = tally.sides;
       second = second_sides both tally.second_sides;
       frames = frames;
+      unfinished = (plain_counts tally.notes).fragments.all;
+      types = map number_count (plain_counts tally.notes).types;
+      protocols = map number_count (plain_counts tally.notes).protocols;
       rules = tally.rules.items;
       eras = with_eras (table_of tally.second_eras) (with_eras (table_of tally.eras) no_eras);
     }

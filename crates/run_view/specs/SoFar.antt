@@ -6,6 +6,9 @@ use Rattle.pcap_file.specs.declared.head.Head.{Head}
 use Rattle.pcap_file.specs.Records.{Packet}
 use Rattle.pcap_file.specs.Capture.{IsCapture}
 use Rattle.capture_input.specs.Inputs.{TookAll}
+use Rattle.run_notes.specs.Counts.{plain_counts}
+use Rattle.run_notes.specs.Notes.{notes_of}
+use Rattle.run_notes.specs.declared.list.Note.{Note}
 use Rattle.run_view.specs.Forms.{is_both}
 use Rattle.run_view.specs.Items.{AreItems, Item, Line, by_first, end_text, firsts, frames_of, line_of, lines_of, lines_text, owed_of, packets_of, seconds, time_of, turn_at, waits}
 use Rattle.run_view.specs.Rows.{table_of}
@@ -14,7 +17,7 @@ use Rattle.run_view.specs.Printed.{summary_shown}
 use Rattle.run_view.specs.Shows.{due_text}
 use Rattle.run_view.specs.Steps.{Holds, IsReady}
 use Rattle.run_view.specs.Chosen.{has_choice, meets_record, met_of, prints_records}
-use Rattle.run_view.specs.View.{closing, summed, first_eras, items_text, newest_text, printed_of, record_text, rules_of, second_eras, sides_of, view_text_of}
+use Rattle.run_view.specs.View.{answer, answer_of, behind_summary, closing, noted, summed, first_eras, items_text, newest_text, printed_of, record_text, rules_of, second_eras, sides_of, view_text_of}
 use Rattle.view_text.specs.declared.view.Format.{Format}
 use Rattle.run_view.specs.declared.form.Form.{Form}
 use Rattle.run_view.specs.declared.line.Lines.{Lines}
@@ -34,6 +37,7 @@ pub record Counts (tally : Tally) (head : Head) (items : List Item) : Type 0 whe
   pub rules_are : tally.rules.items ≡ rules_of items
   pub eras : table_of tally.eras ≡ first_eras head items
   pub second_eras_are : table_of tally.second_eras ≡ second_eras head items
+  pub notes : plain_counts tally.notes ≡ noted head items
 
 -- the three at the beginning
 pub record Ends : Type 0 where
@@ -132,23 +136,35 @@ pub record IsFresh (viewer : Viewer) (asked : Asked) (form : Form) (lines : Line
   pub records : viewer.printing.records ≡ 0
   pub ready : IsReady viewer.files
 
+-- the notes
+abbrev pub notes_in : Tally → List Note
+notes_in tally = notes_of (plain_counts tally.notes)
+
 -- the end of a text or of JSON
 abbrev pub summed_shown : Format → Viewer → List ℕ
 summed_shown format viewer =
     summed format (has_choice viewer.asked) viewer.printing.records
     (summary_shown (is_both viewer.form) viewer.files.count viewer.files.frames.count viewer.tally) (table_of viewer.tally.eras) (table_of viewer.tally.second_eras)
+    (notes_in viewer.tally)
 
 -- what is printed at the end
 abbrev pub closing_shown : Viewer → List ℕ
 closing_shown viewer =
     closing viewer.asked.print (has_choice viewer.asked) viewer.printing.records
     (summary_shown (is_both viewer.form) viewer.files.count viewer.files.frames.count viewer.tally) (table_of viewer.tally.eras) (table_of viewer.tally.second_eras)
+    (notes_in viewer.tally)
 
--- the three files were read to their end, and all was printed
-pub record Whole (asked : Asked) (form : Form) (head written_head : Head) (before : Ends) (printed_now report : Option (List ℕ)) : Type 0 where
+-- the end was printed, and this is the status
+pub record Closed (viewer : Viewer) (old now : Option (List ℕ)) (answered : ℕ) : Type 0 where
+  pub prints : Appends old now (closing_shown viewer)
+  pub status : answered ≡ answer_of viewer.asked.print (notes_in viewer.tally)
+
+-- the three files were read to their end, and all was printed; this is the status
+pub record Whole (asked : Asked) (form : Form) (head written_head : Head) (before : Ends) (printed_now report : Option (List ℕ)) (answered : ℕ) : Type 0 where
   pub items : List Item
   pub are : AreItems form items
   pub none_owed : owed_of items ≡ 0
   pub whole : AreWhole head written_head before.read before.written (packets_of items) (frames_of items)
   pub told : IfSome report (λ octets. octets ≡ lines_text (lines_of items) ++ end_text items)
   pub text : Appends before.printed printed_now (view_text_of asked form head items)
+  pub status : answered ≡ answer asked head items

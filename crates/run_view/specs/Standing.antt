@@ -1,5 +1,5 @@
--- Where the readers of the input and of the output stand (this project's profile). Records and frames are lists with the newest at the head. `all` is what a
--- source had left at first, and `left` what it has left now, where it tells them.
+-- Where the readers of the input and of the output stand (this project's profile). Records and frames are lists with the newest at the head. `all` is
+-- what a source had left at first, and `left` what it has left now, where it tells them.
 use Rattle.std.specs.Prelude.{◌≡◌, ◌≢◌, ◌⊎◌, ℕ, true, false, List, [], ◌∷◌, length, drop, Option, Some, None, Ok, Err, IfSome}
 use Rattle.edge_io.specs.Faults.{Rose}
 use Rattle.wire_base.specs.declared.address.Link.{Link}
@@ -10,15 +10,24 @@ use Rattle.pcap_file.specs.Records.{Packet}
 use Rattle.pcap_file.specs.Capture.{IsCapture, ReadsTo, offset_of}
 use Rattle.pcap_file.specs.Flaws as classic
 use Rattle.pcap_file.specs.Reading.{Reading}
-use Rattle.pcap_file.specs.Reads.{HasFlaw, shown}
+use Rattle.pcap_file.specs.Reads.{HasFlaw, TakesPart, shown}
 use Rattle.capture_input.specs.declared.fault.InputFault.{InputFault}
 use Rattle.capture_input.specs.declared.fault.InputFault.TheVariants as faults
 use Rattle.capture_input.specs.declared.input.Input.{Input}
 use Rattle.capture_input.specs.Faults.{is_read_fault, of_flaw}
 use Rattle.capture_input.specs.Inputs.{Walk, packets_in, place_behind, BeginsWith, FailsInHead, IsFlawed, Took, TookAll}
 use Rattle.capture_input.specs.Reading.{Behind, head_in, is_open_in}
+use Rattle.capture_input.specs.Reads.{StopsAt}
 use Rattle.run_view.specs.declared.stop.Stop.{Stop}
 use Rattle.run_view.specs.declared.stop.Stop.TheVariants as stops
+
+-- a source or the output, at a moment: its octets, left or held, where it tells them, and how often it has failed
+pub record Seen : Type 0 where
+  pub octets : Option (List ℕ)
+  pub faults : ℕ
+
+abbrev pub seen_of : (octets : Option (List ℕ)) (faults : ℕ) → Seen
+seen_of octets faults = record { octets = octets; faults = faults }
 
 -- the input stands behind these records
 pub record InputAt (input : Input) (head : Head) (all left : Option (List ℕ)) (packets : List Packet) : Type 0 where
@@ -53,6 +62,16 @@ pub record InputFailsBehind (input : Option (List ℕ)) (head : Head) (packets :
   pub flawed : IfSome left (λ rest. IsFlawed None head walk rest fault)
   pub place : offset ≡ place_behind walk
 
+-- The input failed right behind this head and these records: what was taken of it, where it tells that, has no more of them, and of what follows
+-- only a part.
+pub record InputUnread (input : Option (List ℕ)) (head : Head) (packets : List Packet) (before : ℕ) (now : Seen) : Type 0 where
+  pub rose : Rose before now.faults
+  pub walk : Walk
+  pub left : Option (List ℕ)
+  pub took : Took None input left head walk
+  pub packets_are : packets_in walk ≡ packets
+  pub part : StopsAt None head walk left now.octets faults.ReadFault
+
 -- why the head of the input was not read
 abbrev pub InputHeadStops : (all : Option (List ℕ)) → (before now : ℕ) → Stop → Type 0
 InputHeadStops all before now (stops.Input fault offset) = InputHeadFails all fault offset
@@ -60,9 +79,9 @@ InputHeadStops all before now stops.Unread = Rose before now
 InputHeadStops all before now _ = ⊥
 
 -- why no record was read of the input behind these
-abbrev pub InputStops : (all : Option (List ℕ)) → Head → List Packet → (before now : ℕ) → Stop → Type 0
+abbrev pub InputStops : (all : Option (List ℕ)) → Head → List Packet → (before : ℕ) → (now : Seen) → Stop → Type 0
 InputStops all head packets before now (stops.Input fault offset) = InputFailsBehind all head packets fault offset
-InputStops all head packets before now stops.Unread = Rose before now
+InputStops all head packets before now stops.Unread = InputUnread all head packets before now
 InputStops all head packets before now _ = ⊥
 
 -- the next record was read of the input, or it is a capture of those before
@@ -99,6 +118,14 @@ pub record OutputFailsBehind (output : Option (List ℕ)) (head : Head) (frames 
   pub flawed : HasFlaw head.order (length frames) left flaw
   pub place : offset ≡ offset_of frames
 
+-- The output failed right behind this head and these frames: what was taken of it, where it tells that, has no more of them, and of the next only a
+-- part.
+pub record OutputUnread (output : Option (List ℕ)) (head : Head) (frames : List Packet) (before : ℕ) (now : Seen) : Type 0 where
+  pub rose : Rose before now.faults
+  pub left : Option (List ℕ)
+  pub took : TookFrames output left head frames
+  pub part : TakesPart head.order left now.octets
+
 -- the octets begin with this head
 pub record HasHead (octets : List ℕ) (head : Head) : Type 0 where
   pub walk : Walk
@@ -134,9 +161,9 @@ OutputHeadStops link all before now stops.Unread = Rose before now
 OutputHeadStops link all before now _ = ⊥
 
 -- why no frame was read of the output behind these
-abbrev pub OutputStops : (all : Option (List ℕ)) → Head → List Packet → (before now : ℕ) → Stop → Type 0
+abbrev pub OutputStops : (all : Option (List ℕ)) → Head → List Packet → (before : ℕ) → (now : Seen) → Stop → Type 0
 OutputStops all head frames before now (stops.Output fault offset) = OutputFailsBehind all head frames fault offset
-OutputStops all head frames before now stops.Unread = Rose before now
+OutputStops all head frames before now stops.Unread = OutputUnread all head frames before now
 OutputStops all head frames before now _ = ⊥
 
 -- the next frame was read of the output, or it is a capture of those before

@@ -7,12 +7,11 @@ use Rattle.pcap_file.specs.Capture.{IsCapture}
 use Rattle.capture_input.specs.Inputs.{TookAll}
 use Rattle.capture_input.specs.Reading.{is_open_in}
 use Rattle.capture_input.specs.declared.fault.InputFault.{InputFault}
-use Rattle.edge_io.specs.Faults.{Rose}
 use Rattle.rule_book.specs.Entries.{PlainEntry}
 use Rattle.frame_view.specs.Changes.{plain}
 use Rattle.run_view.specs.Judged.{judged_by}
 use Rattle.run_view.specs.Items.{begun_by, changes_in, octets_in}
-use Rattle.run_view.specs.Standing.{BeginsWithRecords, InputFailsBehind, IsBehind, OutputAt, OutputFailsBehind, OutputStops}
+use Rattle.run_view.specs.Standing.{BeginsWithRecords, InputFailsBehind, InputUnread, IsBehind, OutputAt, OutputFailsBehind, OutputStops, OutputUnread, Seen}
 use Rattle.run_view.specs.declared.item.Files.{Files}
 use Rattle.run_view.specs.declared.item.Frames.{Frames}
 use Rattle.run_view.specs.declared.item.Gathered.{Gathered}
@@ -65,13 +64,15 @@ pub record IsGathered (link : Link) (kinds : Kinds) (octets : List ℕ) (own : L
   pub octets_are : gathered.wants.octets ≡ true → gathered.octets ≡ octets_in link own
 
 -- one more frame of a record was read
-pub record FrameAdded (frames : Frames) (all left : Option (List ℕ)) (head : Head) (own older : List Packet) (link : Link) (kinds : Kinds) (octets : List ℕ) (gathered : Gathered) : Type 0 where
+pub record FrameAdded (frames : Frames) (all left : Option (List ℕ)) (head : Head) (own older : List Packet) (link : Link) (kinds : Kinds)
+    (octets : List ℕ) (gathered : Gathered) : Type 0 where
   pub frame : Packet
   pub stands : OutputAt frames.reader head all left (frame ∷ (own ++ older))
   pub gathers : IsGathered link kinds octets (frame ∷ own) gathered
 
 -- so many frames of a record were read
-pub record FramesRead (frames : Frames) (all left : Option (List ℕ)) (head : Head) (older : List Packet) (link : Link) (kinds : Kinds) (octets : List ℕ) (packets : ℕ) (gathered : Gathered) : Type 0 where
+pub record FramesRead (frames : Frames) (all left : Option (List ℕ)) (head : Head) (older : List Packet) (link : Link) (kinds : Kinds)
+    (octets : List ℕ) (packets : ℕ) (gathered : Gathered) : Type 0 where
   pub own : List Packet
   pub count : length own ≡ packets
   pub stands : OutputAt frames.reader head all left (own ++ older)
@@ -83,7 +84,7 @@ pub record IsMissing (count : ℕ) (all : Option (List ℕ)) (head : Head) (behi
   pub place : number ≡ count + 1
 
 -- why the next frame was not read
-abbrev pub FrameStops : (frames : Frames) (all : Option (List ℕ)) (head : Head) (behind : List Packet) (before now : ℕ) → Stop → Type 0
+abbrev pub FrameStops : (frames : Frames) (all : Option (List ℕ)) (head : Head) (behind : List Packet) (before : ℕ) (now : Seen) → Stop → Type 0
 FrameStops frames all head behind before now (stops.Frame number) = IsMissing frames.count all head behind number
 FrameStops frames all head behind before now stops.Memory = Unit {0}
 FrameStops frames all head behind before now stop = OutputStops all head behind before now stop
@@ -100,12 +101,19 @@ pub record OwnFails (all : Option (List ℕ)) (head : Head) (older : List Packet
   pub fewer : length own < packets
   pub fails : OutputFailsBehind all head (own ++ older) fault offset
 
+-- the output failed in a frame of a record, behind these of its own
+pub record OwnUnread (all : Option (List ℕ)) (head : Head) (older : List Packet) (packets before : ℕ) (now : Seen) : Type 0 where
+  pub own : List Packet
+  pub fewer : length own < packets
+  pub unread : OutputUnread all head (own ++ older) before now
+
 -- why the frames of a record were not read
-abbrev pub FramesStop : (frames : Frames) (all : Option (List ℕ)) (head : Head) (older : List Packet) (packets before now : ℕ) → Stop → Type 0
+abbrev pub FramesStop : (frames : Frames) (all : Option (List ℕ)) (head : Head) (older : List Packet) (packets before : ℕ) (now : Seen) → Stop
+    → Type 0
 FramesStop frames all head older packets before now (stops.Frame number) = OwnMissing frames.count all head older packets number
 FramesStop frames all head older packets before now stops.Memory = Unit {0}
 FramesStop frames all head older packets before now (stops.Output fault offset) = OwnFails all head older packets fault offset
-FramesStop frames all head older packets before now stops.Unread = Rose before now
+FramesStop frames all head older packets before now stops.Unread = OwnUnread all head older packets before now
 FramesStop frames all head older packets before now _ = ⊥
 
 -- the input is a capture of these records, and this is the number of the next
@@ -114,25 +122,37 @@ pub record RecordMissing (files : Files) (read : Option (List ℕ)) (records : L
   pub place : number ≡ files.count + 1
 
 -- the record was read behind these, and a frame of it is missing
-pub record FrameMissing (files : Files) (read written : Option (List ℕ)) (head : Head) (records frames : List Packet) (packets number : ℕ) : Type 0 where
+pub record FrameMissing (files : Files) (read written : Option (List ℕ)) (head : Head) (records frames : List Packet)
+    (packets number : ℕ) : Type 0 where
   pub packet : Packet
   pub record_is : BeginsWithRecords read files.head (packet ∷ records)
   pub missing : OwnMissing files.frames.count written head frames packets number
 
 -- the record was read behind these, and the output has a fault in a frame of it
-pub record FrameFails (files : Files) (read written : Option (List ℕ)) (head : Head) (records frames : List Packet) (packets : ℕ) (fault : InputFault) (offset : ℕ) : Type 0 where
+pub record FrameFails (files : Files) (read written : Option (List ℕ)) (head : Head) (records frames : List Packet) (packets : ℕ) (fault : InputFault)
+    (offset : ℕ) : Type 0 where
   pub packet : Packet
   pub record_is : BeginsWithRecords read files.head (packet ∷ records)
   pub fails : OwnFails written head frames packets fault offset
 
--- why a record and its frames were not read
-abbrev pub ItemStops : (files : Files) (read written : Option (List ℕ)) (head : Head) (records frames : List Packet) (packets read_before read_now written_before written_now : ℕ) → Stop → Type 0
-ItemStops files read written head records frames packets read_before read_now written_before written_now (stops.Record number) = RecordMissing files read records number
-ItemStops files read written head records frames packets read_before read_now written_before written_now (stops.Frame number) =
+-- the record was read behind these, and the output failed in a frame of it
+pub record FrameUnread (files : Files) (read written : Option (List ℕ)) (head : Head) (records frames : List Packet) (packets before : ℕ)
+    (now : Seen) : Type 0 where
+  pub packet : Packet
+  pub record_is : BeginsWithRecords read files.head (packet ∷ records)
+  pub own : OwnUnread written head frames packets before now
+
+-- why a record and its frames were not read; `rb` and `wb` count the faults of input and output before, `rn` and `wn` are the two now
+abbrev pub ItemStops : (files : Files) (read written : Option (List ℕ)) (head : Head) (records frames : List Packet)
+    (packets rb : ℕ) (rn : Seen) (wb : ℕ) (wn : Seen) → Stop → Type 0
+ItemStops files read written head records frames packets rb rn wb wn (stops.Record number) = RecordMissing files read records number
+ItemStops files read written head records frames packets rb rn wb wn (stops.Frame number) =
     FrameMissing files read written head records frames packets number
-ItemStops files read written head records frames packets read_before read_now written_before written_now stops.Memory = Unit {0}
-ItemStops files read written head records frames packets read_before read_now written_before written_now (stops.Input fault offset) = InputFailsBehind read files.head records fault offset
-ItemStops files read written head records frames packets read_before read_now written_before written_now (stops.Output fault offset) =
+ItemStops files read written head records frames packets rb rn wb wn stops.Memory = Unit {0}
+ItemStops files read written head records frames packets rb rn wb wn (stops.Input fault offset) =
+    InputFailsBehind read files.head records fault offset
+ItemStops files read written head records frames packets rb rn wb wn (stops.Output fault offset) =
     FrameFails files read written head records frames packets fault offset
-ItemStops files read written head records frames packets read_before read_now written_before written_now stops.Unread = Rose read_before read_now ⊎ Rose written_before written_now
-ItemStops files read written head records frames packets read_before read_now written_before written_now _ = ⊥
+ItemStops files read written head records frames packets rb rn wb wn stops.Unread =
+    InputUnread read files.head records rb rn ⊎ FrameUnread files read written head records frames packets wb wn
+ItemStops files read written head records frames packets rb rn wb wn _ = ⊥

@@ -1,11 +1,17 @@
 -- What `normview` prints of the items of a run (this project's profile). Lists of items have the newest at the head; the text has the oldest first.
-use Rattle.std.specs.Prelude.{ℕ, ◌==◌, ◌&&◌, Bool, true, false, List, [], ◌∷◌, ◌++◌, length, Option, Some, None, option_map, if◌then◌else◌}
+use Rattle.std.specs.Prelude.{ℕ, ◌==◌, ◌&&◌, Bool, true, false, List, [], ◌∷◌, ◌++◌, length, map, Option, Some, None, option_map, if◌then◌else◌}
 use Rattle.std.specs.Prelude.{option_and_then}
 use Rattle.pcap_file.specs.declared.head.Head.{Head}
 use Rattle.rule_book.specs.Entries.{PlainEntry}
 use Rattle.rule_book.specs.declared.entry.Ended.{Ended}
+use Rattle.run_notes.specs.Counts.{counts_of}
+use Rattle.run_notes.specs.Counts.{Counts as NoteCounts}
+use Rattle.run_notes.specs.Fragments.{number_count}
+use Rattle.run_notes.specs.Lines.{PlainLine}
+use Rattle.run_notes.specs.Notes.{has_warning, notes_of}
+use Rattle.run_notes.specs.declared.list.Note.{Note}
 use Rattle.view_text.specs.Eras.{era_fields, era_names}
-use Rattle.view_text.specs.Lines.{line_of}
+use Rattle.view_text.specs.Lines.{line_of, notes_text}
 use Rattle.view_text.specs.Table.{heading_of}
 use Rattle.view_text.specs.Records.{record_fields, record_names}
 use Rattle.view_text.specs.Runs.{chosen_fields, summary_fields}
@@ -30,6 +36,8 @@ format_of prints.Text = formats.Text
 format_of prints.Json = formats.Json
 format_of prints.Records = formats.Table
 format_of prints.Eras = formats.Table
+format_of prints.Notes = formats.Text
+format_of prints.JsonNotes = formats.Json
 
 -- the frames that a line names went to a second engine
 abbrev pub is_given : Form → (second : Bool) → Bool
@@ -73,7 +81,14 @@ newest_text asked form head items = if ends_printed asked head items then record
 
 -- what is printed before the first record: the heading of a table of records
 unfoldable pub opening : Print → List ℕ
-opening print = elim print [ prints.Text ↦ [] | prints.Json ↦ [] | prints.Records ↦ heading_of record_names | prints.Eras ↦ [] ]
+opening print = elim print [
+  | prints.Text ↦ []
+  | prints.Json ↦ []
+  | prints.Records ↦ heading_of record_names
+  | prints.Eras ↦ []
+  | prints.Notes ↦ []
+  | prints.JsonNotes ↦ []
+]
 
 -- what is printed of the items, before the end of the run
 abbrev pub items_text : Asked → Form → Head → List Item → List ℕ
@@ -126,6 +141,17 @@ abbrev pub second_sides : (both : Bool) → Sides → Option Sides
 second_sides false sides = None
 second_sides true sides = Some sides
 
+-- what is counted for the notes of a run: over the lines of the first engine
+abbrev pub line_at : Head → Item → PlainLine
+line_at head item = record { link = head.link; octets = item.packet.octets; entry = item.entry }
+
+abbrev pub lines_at : Head → List Item → List PlainLine
+lines_at head [] = []
+lines_at head (item ∷ older) = line_at head item ∷ lines_at head older
+
+abbrev pub noted : Head → List Item → NoteCounts
+noted head items = counts_of (lines_at head (firsts items))
+
 -- the whole run
 abbrev pub summary_of : Form → Head → List Item → PlainSummary
 summary_of form head items =
@@ -134,6 +160,9 @@ summary_of form head items =
       first = sides_of (firsts items);
       second = second_sides (is_both form) (sides_of (seconds items));
       frames = length (frames_of items);
+      unfinished = (noted head items).fragments.all;
+      types = map number_count (noted head items).types;
+      protocols = map number_count (noted head items).protocols;
       rules = rules_of items;
       eras = with_eras (second_eras head items) (with_eras (first_eras head items) no_eras);
     }
@@ -178,22 +207,45 @@ chosen_line format records = line_of format (chosen_fields records)
 unfoldable pub era_heading : List ℕ
 era_heading = heading_of era_names
 
--- the end of a text or of JSON: how many records were printed, where a condition is given, else the summary and the eras
-abbrev pub summed : Format → (choice : Bool) → (printed : ℕ) → PlainSummary → (first second : List (ℕ × PlainRow)) → List ℕ
-summed format choice printed summary first second =
-    if choice then chosen_line format printed else summary_line format summary ++ eras_text format first second
+-- the lines of notes
+unfoldable pub note_lines : Format → List Note → List ℕ
+note_lines format notes = notes_text format notes
+
+-- the lines of all eras, and of the notes behind them
+abbrev pub behind_summary : Format → (first second : List (ℕ × PlainRow)) → List Note → List ℕ
+behind_summary format first second notes = eras_text format first second ++ note_lines format notes
+
+-- the end of a text or of JSON: how many records were printed, where a condition is given, else the summary, the eras and the notes
+abbrev pub summed : Format → (choice : Bool) → (printed : ℕ) → PlainSummary → (first second : List (ℕ × PlainRow)) → List Note → List ℕ
+summed format choice printed summary first second notes =
+    if choice then chosen_line format printed else summary_line format summary ++ behind_summary format first second notes
 
 -- what is printed at the end
-abbrev pub closing : Print → (choice : Bool) → (printed : ℕ) → PlainSummary → (first second : List (ℕ × PlainRow)) → List ℕ
-closing prints.Text choice printed summary first second = summed formats.Text choice printed summary first second
-closing prints.Json choice printed summary first second = summed formats.Json choice printed summary first second
-closing prints.Records choice printed summary first second = []
-closing prints.Eras choice printed summary first second = era_heading ++ eras_text formats.Table first second
+abbrev pub closing : Print → (choice : Bool) → (printed : ℕ) → PlainSummary → (first second : List (ℕ × PlainRow)) → List Note → List ℕ
+closing prints.Text choice printed summary first second notes = summed formats.Text choice printed summary first second notes
+closing prints.Json choice printed summary first second notes = summed formats.Json choice printed summary first second notes
+closing prints.Records choice printed summary first second notes = []
+closing prints.Eras choice printed summary first second notes = era_heading ++ eras_text formats.Table first second
+closing prints.Notes choice printed summary first second notes = note_lines formats.Text notes
+closing prints.JsonNotes choice printed summary first second notes = note_lines formats.Json notes
 
 abbrev pub closing_text : Asked → Form → Head → List Item → List ℕ
 closing_text asked form head items =
     closing asked.print (has_choice asked) (printed_of asked head items) (summary_of form head items) (first_eras head items) (second_eras head items)
+    (notes_of (noted head items))
 
 -- all that is printed
 abbrev pub view_text_of : Asked → Form → Head → List Item → List ℕ
 view_text_of asked form head items = items_text asked form head items ++ closing_text asked form head items
+
+-- the status of a view to its end: 10 where notes are asked for and one of them is a warning
+abbrev pub answer_of : Print → List Note → ℕ
+answer_of prints.Text notes = 0
+answer_of prints.Json notes = 0
+answer_of prints.Records notes = 0
+answer_of prints.Eras notes = 0
+answer_of prints.Notes notes = if has_warning notes then 10 else 0
+answer_of prints.JsonNotes notes = if has_warning notes then 10 else 0
+
+abbrev pub answer : Asked → Head → List Item → ℕ
+answer asked head items = answer_of asked.print (notes_of (noted head items))

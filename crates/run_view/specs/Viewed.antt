@@ -1,5 +1,5 @@
--- What a status of `view` says of the words, of the three sources and of the output (this project's profile). A source or an output that is None has no known
--- octets; nothing is claimed of it.
+-- What a status of `view` says of the words, of the three sources and of the output (this project's profile). A source or an output that is None has
+-- no known octets; nothing is claimed of it.
 use Rattle.std.specs.Prelude.{◌≡◌, ◌⊎◌, ℕ, List, [], ◌++◌, Option, Some, None, IfSome}
 use Rattle.std.specs.Io.KnownBytes.{Appends}
 use Rattle.pcap_file.specs.declared.head.Head.{Head}
@@ -13,18 +13,19 @@ use Rattle.run_view.specs.Forms.{heading}
 use Rattle.run_view.specs.Items.{Item, AreItems, end_text, frames_of, lines_of, lines_text, owed_of, packets_of}
 use Rattle.run_view.specs.Stops.{HasLine, status_of, stop_format, stop_line}
 use Rattle.view_text.specs.declared.view.Format.{Format}
-use Rattle.run_view.specs.Causes.{FaultCounts, FilesStop, Sources, counts_of, sources_of}
+use Rattle.run_view.specs.Causes.{FilesStop, Sources, sources_of}
+pub use Rattle.run_view.specs.Causes.{Moment, faults_of, moment_of}
 use Rattle.run_view.specs.Printed.{Cut}
 use Rattle.run_view.specs.Words.{asked_in, asks_json}
-use Rattle.run_view.specs.View.{view_text_of}
+use Rattle.run_view.specs.View.{answer, view_text_of}
 
 -- the text of the report of this form of a finished run with these items
 abbrev pub report_of : (form : Form) → (items : List Item) → List ℕ
 report_of form items = heading form ++ lines_text (lines_of items) ++ end_text items
 
 -- The input is a capture of these records, the output a capture of these frames, and the report that of a finished run with these lines, each with the frames
--- that it counts, and none of the second engine wanting; and exactly the text of them was printed.
-pub record ViewedAs (asked : Asked) (input output report old new : Option (List ℕ)) : Type 0 where
+-- that it counts, and none of the second engine wanting; exactly the text of them was printed, and the status is theirs.
+pub record ViewedAs (asked : Asked) (input output report old new : Option (List ℕ)) (status : ℕ) : Type 0 where
   pub head : Head
   pub written : Head
   pub form : Form
@@ -36,38 +37,17 @@ pub record ViewedAs (asked : Asked) (input output report old new : Option (List 
   pub frames : IfSome output (λ octets. IsCapture octets written (frames_of items))
   pub lines : IfSome report (λ octets. octets ≡ report_of form items)
   pub text : Appends old new (view_text_of asked form head items)
+  pub status_is : status ≡ answer asked head items
 
--- Status 0: the words are accepted, and the run was viewed as they ask.
-pub record Viewed (words : List (List ℕ)) (input output report old new : Option (List ℕ)) : Type 0 where
+-- Status 0 and 10: the words are accepted, and the run was viewed as they ask.
+pub record Viewed (words : List (List ℕ)) (input output report old new : Option (List ℕ)) (status : ℕ) : Type 0 where
   pub asked : Asked
   pub accepted : asked_in words ≡ Some asked
-  pub viewed : ViewedAs asked input output report old new
+  pub viewed : ViewedAs asked input output report old new status
 
--- a source or the output, at a moment: its octets, left or held, where it tells them, and how often it has failed
-pub record Seen : Type 0 where
-  pub octets : Option (List ℕ)
-  pub faults : ℕ
-
--- the three sources and the output, at a moment
-pub record Moment : Type 0 where
-  pub input : Seen
-  pub output : Seen
-  pub report : Seen
-  pub out : Seen
-
--- the same, of these octets and counts
-abbrev pub moment_of : (input : Option (List ℕ)) (input_faults : ℕ) (output : Option (List ℕ)) (output_faults : ℕ) (report : Option (List ℕ)) (report_faults : ℕ) (out : Option (List ℕ)) (out_faults : ℕ) → Moment
-moment_of input input_faults output output_faults report report_faults out out_faults =
-    record {
-      input = record { octets = input; faults = input_faults };
-      output = record { octets = output; faults = output_faults };
-      report = record { octets = report; faults = report_faults };
-      out = record { octets = out; faults = out_faults };
-    }
-
--- how often the four have failed
-abbrev pub faults_of : Moment → FaultCounts
-faults_of moment = counts_of moment.input.faults moment.output.faults moment.report.faults moment.out.faults
+-- the view was printed to its end
+abbrev pub IsToItsEnd : (status : ℕ) → Type 0
+IsToItsEnd status = (status ≡ 0) ⊎ (status ≡ 10)
 
 -- the octets of the three sources
 abbrev pub sources_at : Moment → Sources
@@ -83,10 +63,10 @@ pub record IsRefused (words : List (List ℕ)) (before : Moment) (printed : Opti
 pub record IsStopped (words : List (List ℕ)) (before now : Moment) (printed : Option (List ℕ)) (stop : own.Stop) : Type 0 where
   pub asked : Asked
   pub accepted : asked_in words ≡ Some asked
-  pub why : FilesStop asked (sources_at before) before.out.octets printed (faults_of before) (faults_of now) stop
+  pub why : FilesStop asked (sources_at before) before.out.octets printed (faults_of before) now stop
 
--- Why a run is not viewed to its end, `printed` being what the output holds before the line of the stop: by the words; or, where they are accepted, by the octets
--- of the three sources and the counts of faults.
+-- Why a run is not viewed to its end, `printed` being what the output holds before the line of the stop: by the words; or, where they are accepted,
+-- by the octets of the three sources and the counts of faults.
 abbrev pub Cause : (words : List (List ℕ)) → (before now : Moment) → (printed : Option (List ℕ)) → own.Stop → Type 0
 Cause words before now printed stop = IsRefused words before printed stop ⊎ IsStopped words before now printed stop
 

@@ -105,15 +105,17 @@ table_named word =
     else if bytes_eq word (codes "eras") then Some prints.Eras
     else None
 
--- what is printed; JSON and tables exclude each other, and none is asked for twice
+-- what is printed where both are asked for: notes go with JSON, and else nothing goes with anything but text
+abbrev pub both_printed : (first second : Print) → Option Print
+both_printed prints.Text print = Some print
+both_printed prints.Json prints.Notes = Some prints.JsonNotes
+both_printed prints.Notes prints.Json = Some prints.JsonNotes
+both_printed first second = None
+
+-- what is printed; none is asked for twice
 abbrev pub with_print : Asked → Option Print → Option Asked
 with_print asked None = None
-with_print asked (Some print) = elim asked.print [
-  | prints.Text ↦ Some (record asked { print = print })
-  | prints.Json ↦ None
-  | prints.Records ↦ None
-  | prints.Eras ↦ None
-]
+with_print asked (Some print) = option_map (λ both. record asked { print = both }) (both_printed asked.print print)
 
 -- one more condition; none is given twice
 abbrev pub with_rules : Asked → Option (List Bool) → Option Asked
@@ -145,9 +147,10 @@ with_choice ByVerdict asked value = with_verdicts asked (listed ByVerdict value)
 with_choice BySide asked value = with_sides asked (listed BySide value)
 with_choice ByHost asked value = with_host asked (host_named value)
 
--- what a word is: `--json`, an option with its value behind `=`, an option whose value is the next word, the first of the names, or none of these
+-- what a word is: `--json`, `--notes`, an option with its value behind `=`, an option whose value is the next word, the first of the names, or none of these
 pub data Word : Type 0 where
   json : Word
+  notes : Word
   joined : Choice → Text → Word
   parted : Choice → Word
   name : Word
@@ -174,15 +177,20 @@ word_in (choice ∷ choices) word = elim (word_by choice (after_front (name_of c
 
 -- a word that begins with `-` (45) is an option, or none
 abbrev pub word_of : Text → Word
-word_of word = if begins_with_dash word then (if is_json word then json else word_in all_choices word) else name
+word_of word =
+    if begins_with_dash word
+    then (if is_json word then json else if bytes_eq word (codes "--notes") then notes else word_in all_choices word)
+    else name
 
--- a table of all eras has no conditions
+-- a table of all eras has no conditions, and neither have notes
 abbrev pub go_together : Asked → Bool
 go_together asked = elim asked.print [
   | prints.Text ↦ true
   | prints.Json ↦ true
   | prints.Records ↦ true
   | prints.Eras ↦ not (has_choice asked)
+  | prints.Notes ↦ not (has_choice asked)
+  | prints.JsonNotes ↦ not (has_choice asked)
 ]
 
 -- three names, none of them empty and none beginning with `-`
@@ -202,6 +210,7 @@ asked_from waiting asked [] = None
 asked_from waiting asked (word ∷ words) =
     elim (next_word waiting word) [
       | json ↦ elim (with_print asked (Some prints.Json)) [ Some more ↦ asked_from None more words | None ↦ None ]
+      | notes ↦ elim (with_print asked (Some prints.Notes)) [ Some more ↦ asked_from None more words | None ↦ None ]
       | joined choice value ↦ elim (with_choice choice asked value) [ Some more ↦ asked_from None more words | None ↦ None ]
       | parted choice ↦ asked_from (Some choice) asked words
       | name ↦ with_names asked (word ∷ words)

@@ -42,7 +42,7 @@ pub(crate) fn prints_records(asked: &Asked) -> bool
     match asked.print {
         Print::Text => has_choice(asked),
         Print::Json | Print::Records => true,
-        Print::Eras => false,
+        Print::Eras | Print::Notes | Print::JsonNotes => false,
     }
 }
 

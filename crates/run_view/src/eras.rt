@@ -106,7 +106,8 @@ pub(crate) fn add_record(
     era: Option<u32>,
     told: Told<'_>,
 ) -> Result<(), NoMemory>
-    ensures { OnOk result (table_of eras.new ≡ spec.changed_if era (spec.with_record told.entry.time told.entry.octets told.entry.rules.now) (table_of eras.old)) }
+    ensures { OnOk result (table_of eras.new ≡ spec.changed_if era (spec.with_record told.entry.time told.entry.octets told.entry.rules.now)
+        (table_of eras.old)) }
 {
     let Some(era) = era else {
         return Ok(());
@@ -118,7 +119,8 @@ pub(crate) fn add_record(
 // Adds a record to an era that is in the table.
 fn add_named(eras: &mut Eras, era: u32, told: Told<'_>) -> Result<(), NoMemory>
     requires there { IsSome (get nat_eq eras.old era) }
-    ensures { OnOk result (table_of eras.new ≡ spec.changed era (spec.with_record told.entry.time told.entry.octets told.entry.rules.now) (table_of eras.old)) }
+    ensures { OnOk result (table_of eras.new ≡ spec.changed era (spec.with_record told.entry.time told.entry.octets told.entry.rules.now)
+        (table_of eras.old)) }
 {
     match eras.get_mut(&era) {
         Some(row) => row.add(told),

@@ -23,7 +23,8 @@ pub enum Form {
 /// Reads the first line of the report, and returns its form.
 pub(crate) fn read_form<R: Source>(lines: &mut Lines, report: &mut R) -> Result<Form, Stop>
     ensures stops { IfErr result (FirstStops (left_in lines.old (R.left report.old)) (R.fault_count report.old) (R.fault_count report.new)) }
-    ensures first { IfOk result (λ form. Consumes (left_in lines.old (R.left report.old)) (left_in lines.new (R.left report.new)) (spec.heading form)) }
+    ensures first { IfOk result (λ form. Consumes (left_in lines.old (R.left report.old)) (left_in lines.new (R.left report.new))
+        (spec.heading form)) }
     ensures later { R.fault_count report.old ≤ R.fault_count report.new }
     ensures kept { OnOk result (R.fault_count report.new ≡ R.fault_count report.old) }
 {

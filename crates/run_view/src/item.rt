@@ -7,7 +7,7 @@ ghost use Rattle.rule_book.specs.Entries.{plain};
 ghost use Rattle.run_view.specs.Eras.{plus};
 ghost use Rattle.run_view.specs.Items as spec;
 ghost use Rattle.run_view.specs.Items.{waits};
-ghost use Rattle.run_view.specs.Standing.{OutputAt};
+ghost use Rattle.run_view.specs.Standing.{OutputAt, seen_of};
 ghost use Rattle.run_view.specs.Steps.{FrameAdded, FrameStops, FramesRead, FramesStop, Holds, IsGathered, MayRead};
 
 use crate::Stop;
@@ -135,13 +135,14 @@ pub(crate) fn gather<O: Source>(
     requires fresh { IsGathered original.link original.kinds original.octets.now [] gathered.old }
     ensures read { OnOk result ((all : Option (List ℕ)) (head : Head) (older : List Packet) →
         OutputAt frames.old.reader head all (O.left output.old) older →
-        FramesRead frames.new all (O.left output.new) head older original.entry.link original.entry.kinds original.entry.octets.now packets gathered.new) }
+        FramesRead frames.new all (O.left output.new) head older original.entry.link original.entry.kinds original.entry.octets.now packets
+        gathered.new) }
     ensures wants { OnOk result (gathered.new.wants ≡ gathered.old.wants) }
     ensures ready { OnOk result (MayRead frames.new) }
     ensures count { OnOk result (frames.new.count ≡ frames.old.count + packets) }
     ensures stops { IfErr result (λ stop. (all : Option (List ℕ)) (head : Head) (older : List Packet) →
         OutputAt frames.old.reader head all (O.left output.old) older →
-        FramesStop frames.old all head older packets (O.fault_count output.old) (O.fault_count output.new) stop) }
+        FramesStop frames.old all head older packets (O.fault_count output.old) (seen_of (O.left output.new) (O.fault_count output.new)) stop) }
     ensures later { O.fault_count output.old ≤ O.fault_count output.new }
     ensures kept { OnOk result (O.fault_count output.new ≡ O.fault_count output.old) }
 {
@@ -174,14 +175,16 @@ fn add_frame<O: Source>(
     requires ready { MayRead frames.old }
     requires few { frames.old.count + 1 < 2 ^ 64 }
     ensures added { OnOk result ((all : Option (List ℕ)) (head : Head) (own older : List Packet) → length own ≡ number →
-        OutputAt frames.old.reader head all (O.left output.old) (own ++ older) → IsGathered original.entry.link original.entry.kinds original.entry.octets.now own gathered.old →
-        FrameAdded frames.new all (O.left output.new) head own older original.entry.link original.entry.kinds original.entry.octets.now gathered.new) }
+        OutputAt frames.old.reader head all (O.left output.old) (own ++ older) →
+        IsGathered original.entry.link original.entry.kinds original.entry.octets.now own gathered.old →
+        FrameAdded frames.new all (O.left output.new) head own older original.entry.link original.entry.kinds original.entry.octets.now
+        gathered.new) }
     ensures wants { OnOk result (gathered.new.wants ≡ gathered.old.wants) }
     ensures ready { OnOk result (MayRead frames.new) }
     ensures count { OnOk result (frames.new.count ≡ frames.old.count + 1) }
     ensures stops { IfErr result (λ stop. (all : Option (List ℕ)) (head : Head) (behind : List Packet) →
         OutputAt frames.old.reader head all (O.left output.old) behind →
-        FrameStops frames.old all head behind (O.fault_count output.old) (O.fault_count output.new) stop) }
+        FrameStops frames.old all head behind (O.fault_count output.old) (seen_of (O.left output.new) (O.fault_count output.new)) stop) }
     ensures later { O.fault_count output.old ≤ O.fault_count output.new }
     ensures kept { OnOk result (O.fault_count output.new ≡ O.fault_count output.old) }
 {
@@ -217,7 +220,8 @@ fn note_flow(link: Link, number: u8, frame: &[u8], gathered: &mut Gathered)
     ensures changes { gathered.new.changes ≡ gathered.old.changes }
     ensures wants { gathered.new.wants ≡ gathered.old.wants }
     ensures flow { gathered.old.wants.flow ≡ true → gathered.new.flow ≡ spec.first_flow number (spec.flow_at link frame.now) gathered.old.flow }
-    ensures octets { gathered.old.wants.octets ≡ true → gathered.new.octets ≡ plus gathered.old.octets (spec.tcp_octets (spec.flow_at link frame.now)) }
+    ensures octets { gathered.old.wants.octets ≡ true → gathered.new.octets ≡ plus gathered.old.octets
+        (spec.tcp_octets (spec.flow_at link frame.now)) }
 {
     let wants = gathered.wants;
     if !wants.flow && !wants.octets {

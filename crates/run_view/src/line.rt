@@ -1,8 +1,9 @@
 //! The lines of a report, read one by one through a buffer.
-ghost use Rattle.std.specs.Prelude.{◌≡◌, ◌≤◌, ◌-◌, ℕ, List, length, take, IfOk, OnOk};
+ghost use Rattle.std.specs.Prelude.{◌≡◌, ◌≤◌, ◌-◌, ℕ, List, length, take, IfOk, OnErr, OnOk};
 ghost use Rattle.std.specs.Io.KnownBytes.{Keeps};
 ghost use Rattle.std.specs.declared.option.Option.{Option};
 ghost use Rattle.edge_io.specs.Faults.{HasCause};
+ghost use Rattle.edge_io.specs.Octets.{TakesFewer};
 ghost use Rattle.run_view.specs.Lines.{front_line};
 
 use edge_io::{Failed, NoMemory, Source, read_full};
@@ -49,6 +50,7 @@ impl Lines {
     pub(crate) fn next<R: Source>(&mut self, source: &mut R) -> Result<(), Failed>
         ensures short { OnOk result (length (line_in self.new) ≤ 400) }
         ensures line { OnOk result (TookLine (left_in self.old (R.left source.old)) (left_in self.new (R.left source.new)) (line_in self.new)) }
+        ensures unread { OnErr result (TakesFewer (left_in self.old (R.left source.old)) (R.left source.new) 4096) }
         ensures cause { HasCause (R.fault_count source.old) (R.fault_count source.new) result }
     {
         self.fill(source)?;
@@ -69,6 +71,7 @@ impl Lines {
     /// may be lost.
     pub(crate) fn goes_on<R: Source>(&mut self, source: &mut R) -> Result<bool, Failed>
         ensures more { IfOk result (λ more. GoesOn more (left_in self.old (R.left source.old))) }
+        ensures unread { OnErr result (TakesFewer (left_in self.old (R.left source.old)) (R.left source.new) 4096) }
         ensures cause { HasCause (R.fault_count source.old) (R.fault_count source.new) result }
     {
         self.fill(source)?;
@@ -87,6 +90,7 @@ impl Lines {
     fn fill<R: Source>(&mut self, source: &mut R) -> Result<(), Failed>
         ensures kept { OnOk result (Keeps (left_in self.old (R.left source.old)) (left_in self.new (R.left source.new))) }
         ensures enough { OnOk result (HasEnough self.new (R.left source.new)) }
+        ensures unread { OnErr result (TakesFewer (left_in self.old (R.left source.old)) (R.left source.new) 4096) }
         ensures cause { HasCause (R.fault_count source.old) (R.fault_count source.new) result }
     {
         if LINE_ROOM <= self.filled - self.start {
@@ -100,6 +104,7 @@ impl Lines {
     fn refill<R: Source>(&mut self, source: &mut R) -> Result<(), Failed>
         ensures kept { OnOk result (Keeps (left_in self.old (R.left source.old)) (left_in self.new (R.left source.new))) }
         ensures enough { OnOk result (HasEnough self.new (R.left source.new)) }
+        ensures unread { OnErr result (TakesFewer (left_in self.old (R.left source.old)) (R.left source.new) 4096) }
         ensures cause { HasCause (R.fault_count source.old) (R.fault_count source.new) result }
     {
         let count = self.filled - self.start;

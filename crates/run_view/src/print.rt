@@ -1,7 +1,8 @@
 //! What is printed of a run.
-ghost use Rattle.std.specs.Prelude.{◌≡◌, ◌≤◌, ◌++◌, map, option_map, option_and_then, IfErr, IfOk, OnOk, string_bytes};
+ghost use Rattle.std.specs.Prelude.{◌≡◌, ◌≤◌, ◌++◌, map, if◌then◌else◌, option_map, option_and_then, IfErr, IfOk, OnOk, string_bytes};
 ghost use Rattle.std.specs.Io.KnownBytes.{Appends};
 ghost use Rattle.run_view.specs.Printed.{PartStops, PrintStops, summary_shown};
+ghost use Rattle.run_view.specs.SoFar.{notes_in};
 ghost use Rattle.run_view.specs.Rows.{plain_pair, table_of};
 ghost use Rattle.run_view.specs.Stops.{stop_format as format_of_stop, stop_line as line_of_stop};
 ghost use Rattle.run_view.specs.View as spec;
@@ -14,10 +15,11 @@ use crate::tally::{Tally, era_counts};
 use crate::words::Print;
 use edge_io::{NoMemory, Sink};
 use rule_book::{Ended, Entry, Reason};
+use run_notes::has_warning;
 use std::alloc::Global;
 use view_text::{
-    EraView, Format, Sides, Summary, chosen_line, era_heading, era_line, record_heading,
-    summary_line,
+    EraView, Format, Sides, Summary, chosen_line, era_heading, era_line, notes_text,
+    record_heading, summary_line,
 };
 use wire_base::Link;
 
@@ -26,8 +28,8 @@ pub(crate) fn format_of(print: Print) -> Format
     ensures { result ≡ spec.format_of print }
 {
     match print {
-        Print::Text => Format::Text,
-        Print::Json => Format::Json,
+        Print::Text | Print::Notes => Format::Text,
+        Print::Json | Print::JsonNotes => Format::Json,
         Print::Records | Print::Eras => Format::Table,
     }
 }
@@ -73,7 +75,7 @@ pub(crate) fn print_opening<K: Sink>(alloc: Global, print: Print, out: &mut K) -
     ensures kept { OnOk result (K.fault_count out.new ≡ K.fault_count out.old) }
 {
     match print {
-        Print::Text | Print::Json | Print::Eras => Ok(()),
+        Print::Text | Print::Json | Print::Eras | Print::Notes | Print::JsonNotes => Ok(()),
         Print::Records => match record_heading(alloc) {
             Ok(line) => self::print(line.as_bytes(), out),
             Err(_) => Err(Stop::Memory),
@@ -104,11 +106,20 @@ pub(crate) fn print_summary<K: Sink>(
     ensures later { K.fault_count out.old ≤ K.fault_count out.new }
     ensures kept { OnOk result (K.fault_count out.new ≡ K.fault_count out.old) }
 {
+    let Ok(types) = tally.notes.types(alloc) else {
+        return Err(Stop::Memory);
+    };
+    let Ok(protocols) = tally.notes.protocols(alloc) else {
+        return Err(Stop::Memory);
+    };
     let summary = Summary {
         records: size.records,
         first: tally.sides,
         second: second_sides(size.both, tally.second_sides),
         frames: size.frames,
+        unfinished: tally.notes.unfinished(),
+        types: types.as_slice(),
+        protocols: protocols.as_slice(),
         rules: tally.rules.as_slice(),
         eras: era_counts(tally),
     };
@@ -116,6 +127,72 @@ pub(crate) fn print_summary<K: Sink>(
         Ok(line) => print(line.as_bytes(), out),
         Err(_) => Err(Stop::Memory),
     }
+}
+
+/// Prints the lines of all eras, and the notes behind them.
+pub(crate) fn print_rest<K: Sink>(
+    alloc: Global,
+    format: Format,
+    tally: &Tally,
+    out: &mut K,
+) -> Result<(), Stop>
+    ensures prints { OnOk result (Appends (K.held out.old) (K.held out.new)
+        (spec.behind_summary format (table_of tally.now.eras) (table_of tally.now.second_eras) (notes_in tally.now))) }
+    ensures stops { IfErr result (PartStops (K.held out.old) (K.held out.new) (K.fault_count out.old) (K.fault_count out.new)
+        (spec.behind_summary format (table_of tally.now.eras) (table_of tally.now.second_eras) (notes_in tally.now))) }
+    ensures later { K.fault_count out.old ≤ K.fault_count out.new }
+    ensures kept { OnOk result (K.fault_count out.new ≡ K.fault_count out.old) }
+{
+    print_eras(alloc, format, tally, out)?;
+    print_notes(alloc, format, tally, out)
+}
+
+/// Prints the notes.
+pub(crate) fn print_notes<K: Sink>(
+    alloc: Global,
+    format: Format,
+    tally: &Tally,
+    out: &mut K,
+) -> Result<(), Stop>
+    ensures prints { OnOk result (Appends (K.held out.old) (K.held out.new) (spec.note_lines format (notes_in tally.now))) }
+    ensures stops { IfErr result (PartStops (K.held out.old) (K.held out.new) (K.fault_count out.old) (K.fault_count out.new) (spec.note_lines format (notes_in tally.now))) }
+    ensures later { K.fault_count out.old ≤ K.fault_count out.new }
+    ensures kept { OnOk result (K.fault_count out.new ≡ K.fault_count out.old) }
+{
+    match text_of_notes(alloc, format, tally) {
+        Ok(text) => print(text.as_bytes(), out),
+        Err(_) => Err(Stop::Memory),
+    }
+}
+
+// Returns the lines of the notes.
+#[tactic(auto, unfolding(crate::specs::View::note_lines))]
+fn text_of_notes(alloc: Global, format: Format, tally: &Tally) -> Result<String, NoMemory>
+    ensures { IfOk result (λ text. string_bytes text ≡ spec.note_lines format (notes_in tally.now)) }
+{
+    let list = tally.notes.list(alloc)?;
+    notes_text(alloc, format, list.as_slice())
+}
+
+/// Returns the status of a view to its end: 10 if notes are asked for and one of them is a warning.
+pub(crate) fn answer(alloc: Global, print: Print, tally: &Tally) -> Result<u8, NoMemory>
+    ensures is { IfOk result (λ answered. answered ≡ spec.answer_of print (notes_in tally.now)) }
+    ensures ends { IfOk result (λ answered. viewed.IsToItsEnd answered) }
+{
+    match print {
+        Print::Text | Print::Json | Print::Records | Print::Eras => Ok(0),
+        Print::Notes | Print::JsonNotes => {
+            let list = tally.notes.list(alloc)?;
+            Ok(status_of(has_warning(list.as_slice())))
+        }
+    }
+}
+
+fn status_of(warning: bool) -> u8
+    ensures is { result ≡ (if warning then 10 else 0) }
+    ensures ends { viewed.IsToItsEnd result }
+{
+    if warning { 10 } else { 0 }
 }
 
 // Returns the lines of the second engine by side, where there is one.

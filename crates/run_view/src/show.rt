@@ -98,7 +98,8 @@ fn note_printed(
 #[inline(always)]
 pub(crate) fn print_due<K: Sink>(printing: &Printing, out: &mut K) -> Result<(), Stop>
     ensures prints { OnOk result (Appends (K.held out.old) (K.held out.new) (due_text printing.now)) }
-    ensures stops { IfErr result (λ stop. (stop ≡ Unwritten) × Cut (K.held out.old) (K.held out.new) (K.fault_count out.old) (K.fault_count out.new) (due_text printing.now)) }
+    ensures stops { IfErr result (λ stop. (stop ≡ Unwritten) × Cut (K.held out.old) (K.held out.new) (K.fault_count out.old) (K.fault_count out.new)
+        (due_text printing.now)) }
     ensures later { K.fault_count out.old ≤ K.fault_count out.new }
     ensures kept { OnOk result (K.fault_count out.new ≡ K.fault_count out.old) }
 {
@@ -160,7 +161,8 @@ fn line_of_record(
     shown: Shown<'_>,
     gathered: &Gathered,
 ) -> Result<String, NoMemory>
-    ensures { IfOk result (λ line. string_bytes line ≡ view.record_line print (record_shown shown.entry.second shown.entry.given shown.entry.number shown.entry.time
+    ensures { IfOk result (λ line. string_bytes line ≡ view.record_line print
+        (record_shown shown.entry.second shown.entry.given shown.entry.number shown.entry.time
         shown.entry.link shown.entry.octets.now shown.entry.entry.now shown.entry.before gathered.now)) }
 {
     let flow = flow_at(shown.link, shown.octets);

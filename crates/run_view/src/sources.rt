@@ -7,7 +7,7 @@ ghost use Rattle.pcap_file.specs.Records.{Packet};
 ghost use Rattle.pcap_file.specs.declared.head.Head.{Head};
 ghost use Rattle.capture_input.specs.Reading.{is_open_in};
 ghost use Rattle.run_view.specs.SourceStops as spec;
-ghost use Rattle.run_view.specs.Standing.{InputAt, InputOpened, IsBehind, InputHeadStops, InputReads, InputStops, OutputAt, OutputHeadStops, OutputReads, OutputStops};
+ghost use Rattle.run_view.specs.Standing.{InputAt, InputOpened, IsBehind, InputHeadStops, InputReads, InputStops, OutputAt, OutputHeadStops, OutputReads, OutputStops, seen_of};
 ghost use Rattle.wire_base.specs.declared.limits.TheConstants.{MAX_CAPTURED};
 
 use crate::Stop;
@@ -45,7 +45,8 @@ pub(crate) fn next_record<'a, I: Source>(
     ensures goes_on { IfOk result (λ given. IfSome given (λ _. is_open_in input.new ≡ true)) }
     ensures behind { IfOk result (λ given. IfSome given (λ _. IsBehind input.new)) }
     ensures stops { IfErr result (λ stop. (head : Head) (all : Option (List ℕ)) (packets : List Packet) →
-        InputAt input.old head all (I.left source.old) packets → InputStops all head packets (I.fault_count source.old) (I.fault_count source.new) stop) }
+        InputAt input.old head all (I.left source.old) packets →
+        InputStops all head packets (I.fault_count source.old) (seen_of (I.left source.new) (I.fault_count source.new)) stop) }
     ensures later { I.fault_count source.old ≤ I.fault_count source.new }
     ensures kept { OnOk result (I.fault_count source.new ≡ I.fault_count source.old) }
 {
@@ -107,7 +108,8 @@ pub(crate) fn next_frame<'a, O: Source>(
         OutputAt reader.old head all (O.left source.old) frames → OutputReads reader.new head all (O.left source.new) frames given) }
     ensures goes_on { IfOk result (λ given. IfSome given (λ _. reader.new.is_open ≡ true)) }
     ensures stops { IfErr result (λ stop. (head : Head) (all : Option (List ℕ)) (frames : List Packet) →
-        OutputAt reader.old head all (O.left source.old) frames → OutputStops all head frames (O.fault_count source.old) (O.fault_count source.new) stop) }
+        OutputAt reader.old head all (O.left source.old) frames →
+        OutputStops all head frames (O.fault_count source.old) (seen_of (O.left source.new) (O.fault_count source.new)) stop) }
     ensures later { O.fault_count source.old ≤ O.fault_count source.new }
     ensures kept { OnOk result (O.fault_count source.new ≡ O.fault_count source.old) }
 {

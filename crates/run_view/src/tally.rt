@@ -1,6 +1,8 @@
 //! What is counted over a run.
 ghost use Rattle.std.specs.Prelude.{◌≡◌, OnOk, [], map, true, false, Some};
 ghost use Rattle.rule_book.specs.Entries.{plain};
+ghost use Rattle.run_notes.specs.Counts.{plain_counts, plain_line, with_line};
+ghost use Rattle.run_notes.specs.Counts.{no_counts as no_notes};
 ghost use Rattle.run_view.specs.Eras as rows;
 ghost use Rattle.run_view.specs.Items.{if_inward as if_inward_of};
 ghost use Rattle.run_view.specs.Steps.{wants_of as wants_of_line};
@@ -13,6 +15,7 @@ use crate::judged::Judged;
 use edge_io::NoMemory;
 use indexmap::IndexMap;
 use rule_book::{Ended, Entry, Reason, Rule, Verdict};
+use run_notes::{Line, Notes};
 use std::alloc::Global;
 use view_text::{Counts, EraCounts, Opened, RuleCount, Sides};
 use wire_base::Side;
@@ -30,6 +33,8 @@ pub(crate) struct Tally {
     pub(crate) eras: Eras,
     /// The eras of the second engine.
     pub(crate) second_eras: Eras,
+    /// What is counted for the notes.
+    pub(crate) notes: Notes,
 }
 
 impl Tally {
@@ -40,6 +45,7 @@ impl Tally {
         ensures rules { result.rules.items ≡ [] }
         ensures eras { table_of result.eras ≡ [] }
         ensures second_eras { table_of result.second_eras ≡ [] }
+        ensures notes { plain_counts result.notes ≡ no_notes }
     {
         Tally {
             sides: no_sides(),
@@ -47,6 +53,7 @@ impl Tally {
             rules: Vec::new(alloc),
             eras: IndexMap::new(alloc),
             second_eras: IndexMap::new(alloc),
+            notes: Notes::new(alloc),
         }
     }
 
@@ -55,16 +62,19 @@ impl Tally {
     pub(crate) fn note(
         &mut self,
         alloc: Global,
-        entry: &Entry,
+        line: Line<'_>,
         time: u64,
         gathered: &Gathered,
     ) -> Result<(), NoMemory>
-        ensures sides { OnOk result (self.new.sides ≡ spec.with_side (plain entry.now).side (plain entry.now).verdict self.old.sides) }
+        ensures sides { OnOk result (self.new.sides ≡ spec.with_side (plain line.entry.entry.now).side (plain line.entry.entry.now).verdict self.old.sides) }
         ensures second_sides { OnOk result (self.new.second_sides ≡ self.old.second_sides) }
-        ensures rules { OnOk result (self.new.rules.items ≡ spec.all_counted (plain entry.now).side (plain entry.now).rules self.old.rules.items) }
-        ensures eras { OnOk result (table_of self.new.eras ≡ rows.with_entry false (plain entry.now) time (if_inward_of (plain entry.now).side gathered.now.octets) gathered.now.flow (table_of self.old.eras)) }
+        ensures rules { OnOk result (self.new.rules.items ≡ spec.all_counted (plain line.entry.entry.now).side (plain line.entry.entry.now).rules self.old.rules.items) }
+        ensures eras { OnOk result (table_of self.new.eras ≡ rows.with_entry false (plain line.entry.entry.now) time (if_inward_of (plain line.entry.entry.now).side gathered.now.octets) gathered.now.flow (table_of self.old.eras)) }
         ensures second_eras { OnOk result (table_of self.new.second_eras ≡ table_of self.old.second_eras) }
+        ensures notes { OnOk result (plain_counts self.new.notes ≡ with_line (plain_line line.entry) (plain_counts self.old.notes)) }
     {
+        let entry = line.entry;
+        self.notes.take(line)?;
         add_to_side(&mut self.sides, entry.side, entry.verdict);
         count_rules(&mut self.rules, entry.side, entry.rules.as_slice())?;
         note_eras(alloc, &mut self.eras, false, entry, time, gathered)
@@ -84,6 +94,7 @@ impl Tally {
         ensures rules { OnOk result (self.new.rules.items ≡ spec.all_counted (plain entry.now).side (plain entry.now).rules self.old.rules.items) }
         ensures eras { OnOk result (table_of self.new.eras ≡ rows.changed_if judged.era (rows.with_sent (if_inward_of judged.side gathered.now.octets)) (table_of self.old.eras)) }
         ensures second_eras { OnOk result (table_of self.new.second_eras ≡ rows.with_entry true (plain entry.now) time (if_inward_of (plain entry.now).side gathered.now.octets) gathered.now.flow (table_of self.old.second_eras)) }
+        ensures notes { OnOk result (self.new.notes ≡ self.old.notes) }
     {
         add_to_side(&mut self.second_sides, entry.side, entry.verdict);
         count_rules(&mut self.rules, entry.side, entry.rules.as_slice())?;

@@ -20,6 +20,10 @@ pub enum Print {
     Records,
     /// A table of eras.
     Eras,
+    /// The notes, as text.
+    Notes,
+    /// The notes, as JSON.
+    JsonNotes,
 }
 
 /// An era that is asked for.
@@ -61,6 +65,7 @@ pub enum Choice {
 #[derive(Clone, Copy)]
 pub enum Met<'a> {
     Json,
+    Notes,
     Joined(Choice, &'a [u8]),
     /// An option whose value is the next word.
     Parted(Choice),
@@ -131,6 +136,7 @@ pub(crate) fn asked_in(words: &[String]) -> Option<Asked>
         waiting = None;
         match met {
             Met::Json => asked = with_print(asked, Some(Print::Json))?,
+            Met::Notes => asked = with_print(asked, Some(Print::Notes))?,
             Met::Joined(choice, value) => asked = with_choice(choice, asked, value)?,
             Met::Parted(choice) => waiting = Some(choice),
             Met::Name => return with_names(asked, &words[place..]),
@@ -168,26 +174,35 @@ fn is_name(word: &[u8]) -> bool
     }
 }
 
-// Returns whether no condition is given for a table of eras.
+// Returns whether no condition is given for a table of eras or for notes.
 fn go_together(asked: Asked) -> bool
     ensures { result ≡ spec.go_together asked }
 {
     let choice = has_choice(&asked);
     match asked.print {
         Print::Text | Print::Json | Print::Records => true,
-        Print::Eras => !choice,
+        Print::Eras | Print::Notes | Print::JsonNotes => !choice,
     }
 }
 
-// Adds what is printed, unless JSON or a table was asked for before, or none is given.
+// Returns what is printed where both are asked for: notes go with JSON, and else nothing goes with
+// anything but text.
+fn both_printed(first: Print, second: Print) -> Option<Print>
+    ensures { result ≡ spec.both_printed first second }
+{
+    match (first, second) {
+        (Print::Text, print) => Some(print),
+        (Print::Json, Print::Notes) | (Print::Notes, Print::Json) => Some(Print::JsonNotes),
+        _ => None,
+    }
+}
+
+// Adds what is printed, unless it does not go with what was asked for before, or none is given.
 fn with_print(asked: Asked, print: Option<Print>) -> Option<Asked>
     ensures { result ≡ spec.with_print asked print }
 {
-    let print = print?;
-    match asked.print {
-        Print::Text => Some(Asked { print, ..asked }),
-        Print::Json | Print::Records | Print::Eras => None,
-    }
+    let print = both_printed(asked.print, print?)?;
+    Some(Asked { print, ..asked })
 }
 
 // Adds an option with this value, unless it was given before or the value is none.
@@ -273,6 +288,9 @@ fn word_met(word: &[u8]) -> Met<'_>
     }
     if is_json(word) {
         return Met::Json;
+    }
+    if word == b"--notes".as_slice() {
+        return Met::Notes;
     }
     option_met(word)
 }

@@ -1,6 +1,6 @@
 use Rattle.pcap_file.specs.Reads.{shown}
 use Rattle.std.proofs.Common.{refl}
-use Rattle.run_view.proofs.Standings.{begins_at}
+use Rattle.run_view.proofs.Records.{begins_at}
 use Rattle.run_view.proofs.Whys.{records_by_input}
 use Rattle.run_view.proofs.ends.end_records.Goals as goal
 

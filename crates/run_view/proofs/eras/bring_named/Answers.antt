@@ -13,4 +13,6 @@ returns c =
     let was : lookup (nat_eq c.args.era) c.args.eras.now.entries ≡ Some c.in-Some.row.now = grind (arith, common_steps) in
     let is : (c.get_mut.follows.lender row).entries ≡ set_value (nat_eq c.args.era) c.args.eras.now.entries row = grind (arith, common_steps) in
     let more : c.saturating_add-row.result ≡ plus c.in-Some.row.now.sent c.args.octets = grind arith in
-    ap rows_of is ∙ changed_by_set c.args.eras.now.entries c.args.era c.in-Some.row.now row (with_sent c.args.octets) was (ap (λ n. plain_row (record c.in-Some.row.now { sent = n })) more)
+    ap rows_of is
+    ∙ changed_by_set c.args.eras.now.entries c.args.era c.in-Some.row.now row (with_sent c.args.octets) was
+    (ap (λ n. plain_row (record c.in-Some.row.now { sent = n })) more)

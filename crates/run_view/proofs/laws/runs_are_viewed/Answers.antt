@@ -1,5 +1,5 @@
-use Rattle.run_view.proofs.Finished as finished
+use Rattle.run_view.proofs.OneStop as stop
 use Rattle.run_view.proofs.laws.runs_are_viewed.Goals as goal
 
 pub returns : goal.returns
-returns c = finished.runs_are_viewed
+returns c = stop.runs_are_viewed

@@ -14,7 +14,9 @@ returns-clause-line c =
     let front : List ℕ = take room octets in
     let first : ℕ = position_or_len is_feed front in
     let long : length front ≡ room = length-take-le room octets (omega (arith, c.min-room.ensures)) in
-    let found = position_from_yields_List is_feed _ _ c.position-feed.result c.position-feed.ensures.ran (YieldsList-from_slice front cc) (λ x b q k. search (rules, tests)) in
+    let found =
+    position_from_yields_List is_feed _ _ c.position-feed.result c.position-feed.ensures.ran (YieldsList-from_slice front cc)
+    (λ x b q k. search (rules, tests)) in
     let place = c.unwrap_or.ensures ∙ ap (λ o. unwrap_or o room) found ∙ ap (λ n. unwrap_or (cond (ltb first (length front)) (Some first) None) n) (sym long)
     ∙ place_or first (length front) (prefix_len-le-length (λ other. not (is_feed other)) front) in
     line_cut octets front room c.unwrap_or.result c.min.result c.min-room.ensures refl place c.min.ensures

@@ -3,12 +3,14 @@ use Rattle.run_view.specs.Rows.{rows_of}
 use Rattle.run_view.specs.View.{table_text}
 use Rattle.std.proofs.lemmas.Result.{err_from_is_err_and}
 use Rattle.run_view.proofs.Listing.{era_stops, first_of_rest, printed_more}
-use Rattle.run_view.proofs.Whys.{rose_within}
+use Rattle.run_view.proofs.Widenings.{rose_within}
 use Rattle.run_view.proofs.print.print_table.Goals as goal
 
 pub loop-place-preserved : goal.loop-place-preserved
 loop-place-preserved g c = record {
-  printed = printed_more c.args.format c.args.second c.args.eras.now.entries c.loop-place.place _ _ _ _ _ (sym c.in-Some.ensures.entry) c.in_ok-print_era.ensures.prints c.loop-place.invariant.printed;
+  printed =
+      printed_more c.args.format c.args.second c.args.eras.now.entries c.loop-place.place _ _ _ _ _ (sym c.in-Some.ensures.entry)
+      c.in_ok-print_era.ensures.prints c.loop-place.invariant.printed;
   later = omega arith;
   kept = c.in_ok-print_era.ensures.kept ∙ c.loop-place.invariant.kept;
 }

@@ -14,7 +14,8 @@ returns c =
     (λ line is.
     is
     ∙ record_lined c.format_of.result c.args.print _
-    (record_shown shown.second shown.given shown.number shown.time shown.link shown.octets.now shown.entry.now shown.before c.args.gathered.now) c.format_of.ensures
+    (record_shown shown.second shown.given shown.number shown.time shown.link shown.octets.now shown.entry.now shown.before c.args.gathered.now)
+    c.format_of.ensures
     (λ i.
     record {
       number = c.from.ensures i;

@@ -16,6 +16,9 @@ returns c =
     let text = c.args.text.now in
     let place = position_or_len (λ other. nat_eq other c.args.octet) text in
     let within = prefix_len-le-length (λ other. not (nat_eq other c.args.octet)) text in
-    let found = position_from_yields_List (λ other. nat_eq other c.args.octet) _ _ c.position.result c.position.ensures.ran (YieldsList-from_slice c.args.text.now cc) (λ x b q k. search (rules, tests)) in
-    let whole = c.unwrap_or.ensures ∙ ap (λ o. unwrap_or o (length text)) found ∙ place_or place (length text) (ltb place (length text)) refl within in
+    let found =
+    position_from_yields_List (λ other. nat_eq other c.args.octet) _ _ c.position.result c.position.ensures.ran
+    (YieldsList-from_slice c.args.text.now cc) (λ x b q k. search (rules, tests)) in
+    let whole =
+    c.unwrap_or.ensures ∙ ap (λ o. unwrap_or o (length text)) found ∙ place_or place (length text) (ltb place (length text)) refl within in
     record { place = whole; within = subst (λ r. r ≤ length text) (sym whole) within }

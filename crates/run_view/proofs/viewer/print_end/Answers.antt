@@ -2,7 +2,7 @@ use Rattle.std.proofs.Common.{arith}
 use Rattle.std.proofs.lemmas.Result.{err_from_is_err_and}
 use Rattle.run_view.proofs.Listing.{heading_whole, part_behind, part_front}
 use Rattle.run_view.proofs.Ons.{if_err}
-use Rattle.run_view.proofs.Whys.{rose_within}
+use Rattle.run_view.proofs.Widenings.{rose_within}
 use Rattle.run_view.proofs.viewer.print_end.Goals as goal
 
 pub returns-in_ok-print_era_heading-in-Eras-clause-stops : goal.returns-in_ok-print_era_heading-in-Eras-clause-stops

@@ -1,20 +1,19 @@
-use Rattle.std.proofs.Common.{ap, inl, inr, ◌∙◌, arith}
+use Rattle.std.proofs.Common.{ap, inl, inr, refl, ◌∙◌, arith}
 use Rattle.std.proofs.KnownBytes.{Appends-nil}
 use Rattle.pcap_file.specs.declared.head.Head.{Head}
 use Rattle.std.proofs.lemmas.Result.{err_from_is_err_and}
-use Rattle.run_view.proofs.Ons.{if_err, on_ok}
+use Rattle.run_view.proofs.Ons.{if_err, if_ok}
 use Rattle.run_view.proofs.Starting.{first_taken, fresh_so_far, opening_stops, stops_within, viewed_fresh}
 use Rattle.run_view.proofs.Heads.{by_input, by_output_head, by_report_ahead, heads_are}
-use Rattle.run_view.proofs.Whys.{source_within}
 use Rattle.run_view.specs.SoFar.{ends_of}
-use Rattle.run_view.specs.Causes.{counts_of}
+use Rattle.run_view.specs.Causes.{counts_of, moment_of}
 use Rattle.run_view.proofs.viewer.view_asked.Goals as goal
 
 pub returns-clause-viewed : goal.returns-clause-viewed
 returns-clause-viewed g c =
-    on_ok c.view_entries.result c.view_entries.ensures.viewed
-    (λ viewed.
-    viewed_fresh c.in_ok-viewer.viewer c.args.asked c.in_ok-form.form c.read_form.new.lines c.in_ok-reader.reader c.in_ok-frames.frames _ _ _ _ _ _ c.in_ok-viewer.ensures
+    if_ok c.view_entries.result c.view_entries.ensures.viewed
+    (λ answered viewed.
+    viewed_fresh c.in_ok-viewer.viewer c.args.asked c.in_ok-form.form c.read_form.new.lines c.in_ok-reader.reader c.in_ok-frames.frames _ _ _ _ _ _ answered c.in_ok-viewer.ensures
     (c.in_ok-frames.ensures.same ∙ ap (λ (h : Head). h.link) c.head.ensures)
     (first_taken c.in_ok-lines.lines c.read_form.new.lines c.in_ok-viewer.viewer.lines _ _ _ (c.in_ok-lines.ensures _) c.in_ok-viewer.ensures.lines_are c.in_ok-form.ensures.first)
     (viewed _ (ends_of (g.I.Source.left c.args.input.now) (g.O.Source.left c.args.output.now) (g.K.Sink.held c.args.out.now))
@@ -28,12 +27,19 @@ returns-clause-stops g c =
     let first =
     counts_of (g.I.Source.fault_count c.open_input.new.source) (g.O.Source.fault_count c.open_output.new.source) (g.R.Source.fault_count c.read_form.new.report) (g.K.Sink.fault_count c.print_opening.new.out) in
     let last =
-    counts_of (g.I.Source.fault_count c.view_entries.new.input) (g.O.Source.fault_count c.view_entries.new.output) (g.R.Source.fault_count c.view_entries.new.report) (g.K.Sink.fault_count c.view_entries.new.out) in
+    moment_of (g.I.Source.left c.view_entries.new.input) (g.I.Source.fault_count c.view_entries.new.input) (g.O.Source.left c.view_entries.new.output)
+    (g.O.Source.fault_count c.view_entries.new.output) (g.R.Source.left c.view_entries.new.report) (g.R.Source.fault_count c.view_entries.new.report)
+    (g.K.Sink.held c.view_entries.new.out) (g.K.Sink.fault_count c.view_entries.new.out) in
     let wide = counts_of (g.I.Source.fault_count c.args.input.now) (g.O.Source.fault_count c.args.output.now) (g.R.Source.fault_count c.args.report.now) (g.K.Sink.fault_count c.args.out.now) in
     stops_within c.in_ok-viewer.viewer c.args.asked c.in_ok-form.form c.read_form.new.lines c.in_ok-reader.reader c.in_ok-frames.frames _ _ _ _ _ _ first last wide stop
-    (source_within wide first last last (record { input = omega arith; output = omega arith; report = omega arith; out = omega arith })
-    (record { input = omega arith; output = omega arith; report = omega arith; out = omega arith }))
-    c.in_ok-print_opening.ensures.kept c.in_ok-viewer.ensures (c.in_ok-frames.ensures.same ∙ ap (λ (h : Head). h.link) c.head.ensures)
+    (record {
+      lower = record { input = omega arith; output = omega arith; report = omega arith; out = omega arith };
+      input = refl;
+      output = refl;
+      report = refl;
+      out = omega arith;
+    })
+    c.in_ok-viewer.ensures (c.in_ok-frames.ensures.same ∙ ap (λ (h : Head). h.link) c.head.ensures)
     (first_taken c.in_ok-lines.lines c.read_form.new.lines c.in_ok-viewer.viewer.lines _ _ _ (c.in_ok-lines.ensures _) c.in_ok-viewer.ensures.lines_are c.in_ok-form.ensures.first)
     (why _ (ends_of (g.I.Source.left c.args.input.now) (g.O.Source.left c.args.output.now) (g.K.Sink.held c.args.out.now))
     (fresh_so_far c.in_ok-viewer.viewer c.args.asked c.in_ok-form.form c.read_form.new.lines c.in_ok-reader.reader c.in_ok-frames.frames _ _ _ _ _ _ c.in_ok-viewer.ensures c.in_ok-reader.ensures.opened

@@ -11,7 +11,8 @@ invariant-entries g l = record {
   asked : l.viewer.asked ≡ l.fn.viewer.asked;
   form : l.viewer.form ≡ l.fn.viewer.form;
   head : l.viewer.files.head ≡ l.fn.viewer.files.head;
-  going : (head : Head) (before : Ends) → SoFar l.fn.viewer head before (ends_of (g.I.Source.left l.fn.input) (g.O.Source.left l.fn.output) (g.K.Sink.held l.fn.out)) []
+  going : (head : Head) (before : Ends)
+      → SoFar l.fn.viewer head before (ends_of (g.I.Source.left l.fn.input) (g.O.Source.left l.fn.output) (g.K.Sink.held l.fn.out)) []
       → Going l.viewer head before (ends_of (g.I.Source.left l.input) (g.O.Source.left l.output) (g.K.Sink.held l.out)) (left_in l.fn.viewer.lines (g.R.Source.left l.fn.report)) (left_in l.viewer.lines (g.R.Source.left l.report));
   input_later : g.I.Source.fault_count l.fn.input ≤ g.I.Source.fault_count l.input;
   output_later : g.O.Source.fault_count l.fn.output ≤ g.O.Source.fault_count l.output;

@@ -10,4 +10,5 @@ returns-clause-more g c =
     let before = left_in c.args.self.now (g.R.Source.left c.args.source.now) in
     let B : Bool → Type 0 = λ b. GoesOn (not b) before in
     let K : List ℕ → Type 0 = λ l. Keeps before (prepend_known l (g.R.Source.left c.fill.new.source)) in
-    subst B (sym c.is_empty.ensures) (goes_by c.ahead.result.now now.start now.filled before _ c.ahead.ensures.len (subst K (sym c.ahead.ensures.value) c.in_ok-fill.ensures.kept) c.in_ok-fill.ensures.enough)
+    subst B (sym c.is_empty.ensures)
+    (goes_by c.ahead.result.now now.start now.filled before _ c.ahead.ensures.len (subst K (sym c.ahead.ensures.value) c.in_ok-fill.ensures.kept) c.in_ok-fill.ensures.enough)

@@ -8,5 +8,6 @@ returns-clause-line g c =
     let now = c.fill.new.self in
     let F : List ℕ → Type 0 = λ l. take c.line_length-len.result l ≡ front_line 400 l in
     let W : List ℕ → Type 0 = λ l. c.line_length-len.result ≤ length l in
-    line_taken now.buffer.value now.start now.filled c.line_length-len.result _ _ (search rules) (ap length (sym c.ahead.ensures.value) ∙ c.ahead.ensures.len) c.in_ok-fill.ensures.kept c.in_ok-fill.ensures.enough
+    line_taken now.buffer.value now.start now.filled c.line_length-len.result _ _ (search rules)
+    (ap length (sym c.ahead.ensures.value) ∙ c.ahead.ensures.len) c.in_ok-fill.ensures.kept c.in_ok-fill.ensures.enough
     (subst F c.ahead.ensures.value c.line_length-len.ensures.line) (subst W c.ahead.ensures.value c.line_length-len.ensures.within)

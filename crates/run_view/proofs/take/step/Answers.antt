@@ -1,4 +1,4 @@
-use Rattle.std.proofs.Common.{refl, sym, ◌∙◌, inl, inr, arith, rules}
+use Rattle.std.proofs.Common.{refl, sym, ◌∙◌, arith, rules}
 use Rattle.std.proofs.lemmas.Result.{err_from_is_err_and}
 use Rattle.rule_book.specs.Entries.{plain}
 use Rattle.run_view.specs.Ahead.{line_in}
@@ -8,7 +8,7 @@ use Rattle.run_view.specs.SoFar.{turn_in}
 use Rattle.run_view.proofs.Amiss.{amiss_so, few_turn, none_told, other_number, part_told, told_so}
 use Rattle.run_view.proofs.Going.{going_ahead, going_at, going_on, next_line_of, taken_unprinted}
 use Rattle.run_view.proofs.Whys.{due_stops, next_amiss, take_stops}
-use Rattle.run_view.proofs.viewer.step.Goals as goal
+use Rattle.run_view.proofs.take.step.Goals as goal
 
 pub returns-then-from-turn-clause-stops : goal.returns-then-from-turn-clause-stops
 returns-then-from-turn-clause-stops g c head before told going =
@@ -25,10 +25,9 @@ returns-in_err-take-in-Some-clause-stops g c =
     (λ head before told going.
     let viewer = c.args.viewer.now in
     let next = told_so c.version_of.result (version_of viewer.form) c.turn-turn.result (turn_in viewer) c.line-text.result.now (line_in c.next.new.self) _ _ (plain c.in-Some.entry) c.version_of.ensures c.turn-turn.ensures c.line-text.ensures
-    c.in-Ok.ensures.line.taken (part_told _ _ _ _ (plain c.in-Some.entry) c.entry_part.ensures (rw c.in-Some.is at c.read_entry-told.ensures)) (search rules) in
-    take_stops viewer head before _ told _
-    (g.I.Source.fault_count c.args.input.now) (g.I.Source.fault_count c.take.new.input) (g.O.Source.fault_count c.args.output.now) (g.O.Source.fault_count c.take.new.output)
-    _ _ _ (plain c.in-Some.entry) (λ rose. inl rose) (λ rose. inr (inl rose)) going
+    c.in-Ok.ensures.line.taken (part_told _ _ _ _ (plain c.in-Some.entry) c.entry_part.ensures (rw c.in-Some.is at c.read_entry-told.ensures))
+    (search rules) in
+    take_stops viewer head before _ told _ _ _ _ (plain c.in-Some.entry) going
     (next_line_of viewer head before _ going.items _ _ (plain c.in-Some.entry) going.so_far next)
     (c.in_err-take-in-Some.ensures.stops before.read before.written head (packets_of going.items) (frames_of going.items) going.so_far.input going.so_far.output))
 
@@ -38,7 +37,8 @@ returns-in_err-print_due-in-Some-clause-stops g c =
     (λ head before told going.
     let viewer = c.args.viewer.now in
     let next = told_so c.version_of.result (version_of viewer.form) c.turn-turn.result (turn_in viewer) c.line-text.result.now (line_in c.next.new.self) _ _ (plain c.in-Some.entry) c.version_of.ensures c.turn-turn.ensures c.line-text.ensures
-    c.in-Ok.ensures.line.taken (part_told _ _ _ _ (plain c.in-Some.entry) c.entry_part.ensures (rw c.in-Some.is at c.read_entry-told.ensures)) (search rules) in
+    c.in-Ok.ensures.line.taken (part_told _ _ _ _ (plain c.in-Some.entry) c.entry_part.ensures (rw c.in-Some.is at c.read_entry-told.ensures))
+    (search rules) in
     let old = record viewer { lines = c.next.new.self } in
     let went = c.in_ok-take-in-Some.ensures.went in
     let ahead = going_ahead viewer c.next.new.self head before _ told _ going in
@@ -51,10 +51,12 @@ pub returns-in_ok-print_due-in-Some-clause-going : goal.returns-in_ok-print_due-
 returns-in_ok-print_due-in-Some-clause-going g c head before told going =
     let viewer = c.args.viewer.now in
     let next = told_so c.version_of.result (version_of viewer.form) c.turn-turn.result (turn_in viewer) c.line-text.result.now (line_in c.next.new.self) _ _ (plain c.in-Some.entry) c.version_of.ensures c.turn-turn.ensures c.line-text.ensures
-    c.in-Ok.ensures.line.taken (part_told _ _ _ _ (plain c.in-Some.entry) c.entry_part.ensures (rw c.in-Some.is at c.read_entry-told.ensures)) (search rules) in
+    c.in-Ok.ensures.line.taken (part_told _ _ _ _ (plain c.in-Some.entry) c.entry_part.ensures (rw c.in-Some.is at c.read_entry-told.ensures))
+    (search rules) in
     going_at _ head before _ told _ _ _ (sym c.in_ok-take-in-Some.ensures.went.lines)
     (going_on (record viewer { lines = c.next.new.self }) c.take.new.viewer head before _ (g.I.Source.left c.take.new.input) (g.O.Source.left c.take.new.output) _ told _ _ (plain c.in-Some.entry)
-    (λ before printed items now fits number. c.in_ok-take-in-Some.ensures.taken head before printed items now fits number) c.in_ok-print_due-in-Some.ensures.prints next (going_ahead viewer c.next.new.self head before _ told _ going))
+    (λ before printed items now fits number. c.in_ok-take-in-Some.ensures.taken head before printed items now fits number)
+    c.in_ok-print_due-in-Some.ensures.prints next (going_ahead viewer c.next.new.self head before _ told _ going))
 
 pub returns-in-None-2-clause-stops : goal.returns-in-None-2-clause-stops
 returns-in-None-2-clause-stops g c head before told going =

@@ -3,17 +3,20 @@ use Rattle.rule_book.specs.Entries.{plain}
 use Rattle.run_view.specs.Causes.{frames_by}
 use Rattle.run_view.specs.Items.{line_by, waits}
 use Rattle.run_view.specs.SoFar.{Taken, ends_of}
+use Rattle.run_view.specs.Standing.{seen_of}
 use Rattle.run_view.specs.Why.{LineStops}
 use Rattle.run_view.proofs.Ending.{some_waits}
 use Rattle.run_view.proofs.Ons.{if_err, on_ok}
-use Rattle.run_view.proofs.viewer.take.Goals as goal
+use Rattle.run_view.proofs.take.take.Goals as goal
 
 pub returns-else-viewer-eq0-clause-taken : goal.returns-else-viewer-eq0-clause-taken
 returns-else-viewer-eq0-clause-taken g c =
     let flag : waits c.args.viewer.now.owed ≡ true = some_waits c.args.viewer.now.owed c.if-viewer-eq0.false in
     on_ok c.take_second.result c.take_second.ensures.taken
     (λ taken head before printed items so_far fits number.
-    let L : Bool → Type 0 = λ b. Taken c.take_second.new.viewer head before (ends_of (g.I.Source.left c.args.input.now) (g.O.Source.left c.take_second.new.output) printed) items (line_by b (plain c.args.entry.now)) in
+    let L : Bool → Type 0 =
+    λ b. Taken c.take_second.new.viewer head before (ends_of (g.I.Source.left c.args.input.now) (g.O.Source.left c.take_second.new.output) printed)
+    items (line_by b (plain c.args.entry.now)) in
     let D : Bool → Type 0 = λ b. c.args.entry.now.number ≡ (if b then c.args.viewer.now.second_count else c.args.viewer.now.files.count) + 1 in
     subst L (sym flag) (taken (g.I.Source.left c.args.input.now) head before printed items so_far fits (subst D flag number)))
 
@@ -24,5 +27,8 @@ returns-else-viewer-eq0-clause-stops g c =
     (λ stop why read written head records frames input_at output_at.
     let T : Bool → Type 0 = λ b.
     LineStops b c.args.viewer.now.files read written head records frames (frames_by b c.args.viewer.now.form (plain c.args.entry.now))
-    (g.I.Source.fault_count c.args.input.now) (g.I.Source.fault_count c.args.input.now) (g.O.Source.fault_count c.args.output.now) (g.O.Source.fault_count c.take_second.new.output) stop in
-    subst T (sym flag) (why read written head records frames (g.I.Source.fault_count c.args.input.now) output_at))
+    (g.I.Source.fault_count c.args.input.now) (seen_of (g.I.Source.left c.args.input.now) (g.I.Source.fault_count c.args.input.now))
+    (g.O.Source.fault_count c.args.output.now) (seen_of (g.O.Source.left c.take_second.new.output) (g.O.Source.fault_count c.take_second.new.output))
+    stop in
+    subst T (sym flag) (why read written head records frames (g.I.Source.fault_count c.args.input.now)
+    (seen_of (g.I.Source.left c.args.input.now) (g.I.Source.fault_count c.args.input.now)) output_at))

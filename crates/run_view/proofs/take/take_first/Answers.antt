@@ -4,7 +4,7 @@ use Rattle.pcap_file.specs.Reads.{shown}
 use Rattle.run_view.specs.Items.{frames_of, packets_of}
 use Rattle.run_view.proofs.Going.{taken_first}
 use Rattle.run_view.proofs.Whys.{item_by_input, item_unread}
-use Rattle.run_view.proofs.viewer.take_first.Goals as goal
+use Rattle.run_view.proofs.take.take_first.Goals as goal
 
 pub returns-in_err-record-clause-stops : goal.returns-in_err-record-clause-stops
 returns-in_err-record-clause-stops g c =
@@ -22,13 +22,15 @@ returns-in_err-gather-clause-stops g c =
     (λ read written head records frames input_at output_at.
     let files = c.args.viewer.now.files in
     item_unread files c.next_record.new.input read written _ head records frames _ _ _ _ _ _ (shown c.in-Some.record) _ c.own_frames-packets.ensures
-    (rw c.in-Some.is at (c.in_ok-record.ensures.reads files.head read records input_at)) (c.in_err-gather.ensures.stops written head frames output_at))
+    (rw c.in-Some.is at (c.in_ok-record.ensures.reads files.head read records input_at))
+    (c.in_err-gather.ensures.stops written head frames output_at))
 
 pub returns-clause-taken : goal.returns-clause-taken
 returns-clause-taken g c head before printed items so_far fits number =
     let viewer = c.args.viewer.now in
     taken_first viewer (record viewer.files { input = c.next_record.new.input; buffer = _; count = viewer.files.count + 1; frames = c.gather.new.frames }) c.hold.new.held c.own_frames-packets.result c.answers-viewer.result
-    c.kinds_by.result c.note.new.self c.note_line.new.printing c.is_both.result head before _ _ _ items c.args.entry.now (shown c.in-Some.record) c.time_of-time.result c.gather.new.gathered c.requires.none_owed refl
+    c.kinds_by.result c.note.new.self c.note_line.new.printing c.is_both.result head before _ _ _ items c.args.entry.now (shown c.in-Some.record)
+    c.time_of-time.result c.gather.new.gathered c.requires.none_owed refl
     c.in_ok-gather.ensures.count c.own_frames-packets.ensures c.kinds_by.ensures c.answers-viewer.ensures c.is_both.ensures c.time_of-time.ensures
     (c.in_ok-gather.ensures.wants ∙ c.nothing-gathered.ensures.wants ∙ c.wants_of.ensures)
     (record {
@@ -37,6 +39,8 @@ returns-clause-taken g c head before printed items so_far fits number =
       rules = c.in_ok-note.ensures.rules;
       eras = c.in_ok-note.ensures.eras;
       second_eras = c.in_ok-note.ensures.second_eras;
+      notes = c.in_ok-note.ensures.notes;
     })
-    c.in_ok-hold.ensures so_far fits number (rw c.in-Some.is at (c.in_ok-record.ensures.reads viewer.files.head before.read (packets_of items) so_far.input))
+    c.in_ok-hold.ensures so_far fits number
+    (rw c.in-Some.is at (c.in_ok-record.ensures.reads viewer.files.head before.read (packets_of items) so_far.input))
     (c.in_ok-gather.ensures.read before.written head (frames_of items) so_far.output) c.in_ok-note_line.ensures

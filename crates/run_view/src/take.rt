@@ -1,0 +1,284 @@
+//! Takes the lines of the report, each with its record and its frames.
+ghost use Rattle.std.specs.Prelude.{◌≡◌, ◌+◌, ◌<◌, ◌≤◌, ℕ, List, true, false, IfErr, IfOk, None, OnOk};
+ghost use Rattle.std.specs.declared.option.Option.{Option};
+ghost use Rattle.pcap_file.specs.Records.{Packet};
+ghost use Rattle.pcap_file.specs.declared.head.Head.{Head};
+ghost use Rattle.rule_book.specs.Entries.{plain};
+ghost use Rattle.rule_book.specs.Reports.{IsEntryOf};
+ghost use Rattle.run_view.specs.Ahead.{left_in};
+ghost use Rattle.run_view.specs.Forms.{version_of as version_of_form};
+ghost use Rattle.run_view.specs.Items.{Item, line_by, waits};
+ghost use Rattle.run_view.specs.SoFar.{Ends, MayTake, SoFar, Taken, WentOn, WentOnBy, ends_of, lines_in, turn_in};
+ghost use Rattle.run_view.specs.Causes.{EntriesStop, counts_of, frames_by, moment_of, sources_of};
+ghost use Rattle.run_view.specs.Going.{Going, IsSameRun, StepsTo};
+ghost use Rattle.run_view.specs.Why.{LineStops};
+ghost use Rattle.run_view.specs.Standing.{InputAt, OutputAt, Seen, seen_of};
+
+use crate::Stop;
+use crate::form::{answers, is_both, own_frames, version_of};
+use crate::item::{gather, hold, nothing, time_of};
+use crate::judged::{kinds_by, second_kinds};
+use crate::print::Shown;
+use crate::seen::Original;
+use crate::show::{note_line, print_due};
+use crate::sources::next_record;
+use crate::tally::wants_of;
+use crate::told::{Turn, entry_part, is_last};
+use crate::viewer::Viewer;
+use edge_io::{Sink, Source};
+use rule_book::{Entry, read_entry};
+use std::alloc::Global;
+
+/// Takes the next line of the report: that of an entry, and returns true, or the last one of a run
+/// with as many records and frames as were read, and returns false.
+pub(crate) fn step<I: Source, O: Source, R: Source, K: Sink>(
+    alloc: Global,
+    viewer: &mut Viewer,
+    input: &mut I,
+    output: &mut O,
+    report: &mut R,
+    out: &mut K,
+) -> Result<bool, Stop>
+    requires may { MayTake viewer.old }
+    ensures going { IfOk result (λ more. (head : Head) (before : Ends) (told : Option (List ℕ)) →
+        Going viewer.old head before (ends_of (I.left input.old) (O.left output.old) (K.held out.old)) told
+        (left_in viewer.old.lines (R.left report.old)) →
+        StepsTo more viewer.new head before (ends_of (I.left input.new) (O.left output.new) (K.held out.new)) told
+        (left_in viewer.old.lines (R.left report.old)) (left_in viewer.new.lines (R.left report.new))) }
+    ensures may { OnOk result (MayTake viewer.new) }
+    ensures fewer { IfOk result (λ more. more ≡ true → lines_in viewer.new ≡ lines_in viewer.old + 1) }
+    ensures same { OnOk result (IsSameRun viewer.old viewer.new) }
+    ensures stops { IfErr result (λ stop. (head : Head) (before : Ends) (told : Option (List ℕ)) →
+        Going viewer.old head before (ends_of (I.left input.old) (O.left output.old) (K.held out.old)) told
+        (left_in viewer.old.lines (R.left report.old)) →
+        EntriesStop viewer.old.asked (sources_of before.read before.written told) viewer.old.form viewer.old.files.head head before.printed
+        (K.held out.new)
+        (counts_of (I.fault_count input.old) (O.fault_count output.old) (R.fault_count report.old) (K.fault_count out.old))
+        (moment_of (I.left input.new) (I.fault_count input.new) (O.left output.new) (O.fault_count output.new)
+        (R.left report.new) (R.fault_count report.new) (K.held out.new) (K.fault_count out.new)) stop) }
+    ensures input_later { I.fault_count input.old ≤ I.fault_count input.new }
+    ensures input_kept { OnOk result (I.fault_count input.new ≡ I.fault_count input.old) }
+    ensures output_later { O.fault_count output.old ≤ O.fault_count output.new }
+    ensures output_kept { OnOk result (O.fault_count output.new ≡ O.fault_count output.old) }
+    ensures report_later { R.fault_count report.old ≤ R.fault_count report.new }
+    ensures report_kept { OnOk result (R.fault_count report.new ≡ R.fault_count report.old) }
+    ensures out_later { K.fault_count out.old ≤ K.fault_count out.new }
+    ensures out_kept { OnOk result (K.fault_count out.new ≡ K.fault_count out.old) }
+{
+    let number = viewer.files.count + viewer.second_count + 2;
+    let Ok(()) = viewer.lines.next(report) else {
+        return Err(Stop::Unread);
+    };
+    let turn = turn(viewer);
+    let text = viewer.lines.line();
+    // An entry is large: it is borrowed here and not moved.
+    let told = read_entry(entry_part(text, turn.second), version_of(viewer.form));
+    match &told {
+        Some(entry) => {
+            if u64::from(entry.number) != turn.done + 1 {
+                return Err(Stop::Report(number));
+            }
+            take(alloc, viewer, entry, input, output)?;
+            print_due(&viewer.printing, out)?;
+            Ok(true)
+        }
+        None if is_last(text, turn) => Ok(false),
+        None => Err(Stop::Report(number)),
+    }
+}
+
+// Returns where the next line of the report stands.
+fn turn(viewer: &Viewer) -> Turn
+    ensures { result ≡ turn_in viewer.now }
+{
+    let frames = viewer.files.frames.count;
+    if viewer.owed == 0 {
+        Turn {
+            second: false,
+            done: viewer.files.count,
+            frames,
+        }
+    } else {
+        Turn {
+            second: true,
+            done: viewer.second_count,
+            frames,
+        }
+    }
+}
+
+// Reads the record and the frames of a line, counts them, and notes what is printed of them.
+fn take<I: Source, O: Source>(
+    alloc: Global,
+    viewer: &mut Viewer,
+    entry: &Entry,
+    input: &mut I,
+    output: &mut O,
+) -> Result<(), Stop>
+    requires may { MayTake viewer.old }
+    ensures taken { OnOk result ((head : Head) (before : Ends) (printed : Option (List ℕ)) (items : List Item) →
+        SoFar viewer.old head before (ends_of (I.left input.old) (O.left output.old) printed) items →
+        IsEntryOf (version_of_form viewer.old.form) (plain entry.now) → entry.now.number ≡ (turn_in viewer.old).done + 1 →
+        Taken viewer.new head before (ends_of (I.left input.new) (O.left output.new) printed) items
+        (line_by (turn_in viewer.old).second (plain entry.now))) }
+    ensures went { OnOk result (WentOn viewer.old viewer.new) }
+    ensures stops { IfErr result (λ stop. (read written : Option (List ℕ)) (head : Head) (records frames : List Packet) →
+        InputAt viewer.old.files.input viewer.old.files.head read (I.left input.old) records →
+        OutputAt viewer.old.files.frames.reader head written (O.left output.old) frames →
+        LineStops (waits viewer.old.owed) viewer.old.files read written head records frames
+        (frames_by (waits viewer.old.owed) viewer.old.form (plain entry.now))
+        (I.fault_count input.old) (seen_of (I.left input.new) (I.fault_count input.new))
+        (O.fault_count output.old) (seen_of (O.left output.new) (O.fault_count output.new)) stop) }
+    ensures input_later { I.fault_count input.old ≤ I.fault_count input.new }
+    ensures input_kept { OnOk result (I.fault_count input.new ≡ I.fault_count input.old) }
+    ensures output_later { O.fault_count output.old ≤ O.fault_count output.new }
+    ensures output_kept { OnOk result (O.fault_count output.new ≡ O.fault_count output.old) }
+{
+    if viewer.owed == 0 {
+        take_first(alloc, viewer, entry, input, output)
+    } else {
+        take_second(alloc, viewer, entry, output)
+    }
+}
+
+// Takes a line of the first engine.
+fn take_first<I: Source, O: Source>(
+    alloc: Global,
+    viewer: &mut Viewer,
+    entry: &Entry,
+    input: &mut I,
+    output: &mut O,
+) -> Result<(), Stop>
+    requires may { MayTake viewer.old }
+    requires none_owed { viewer.old.owed ≡ 0 }
+    ensures taken { OnOk result ((head : Head) (before : Ends) (printed : Option (List ℕ)) (items : List Item) →
+        SoFar viewer.old head before (ends_of (I.left input.old) (O.left output.old) printed) items →
+        IsEntryOf (version_of_form viewer.old.form) (plain entry.now) → entry.now.number ≡ viewer.old.files.count + 1 →
+        Taken viewer.new head before (ends_of (I.left input.new) (O.left output.new) printed) items (line_by false (plain entry.now))) }
+    ensures went { OnOk result (WentOnBy false viewer.old viewer.new) }
+    ensures stops { IfErr result (λ stop. (read written : Option (List ℕ)) (head : Head) (records frames : List Packet) →
+        InputAt viewer.old.files.input viewer.old.files.head read (I.left input.old) records →
+        OutputAt viewer.old.files.frames.reader head written (O.left output.old) frames →
+        LineStops false viewer.old.files read written head records frames (frames_by false viewer.old.form (plain entry.now))
+        (I.fault_count input.old) (seen_of (I.left input.new) (I.fault_count input.new))
+        (O.fault_count output.old) (seen_of (O.left output.new) (O.fault_count output.new)) stop) }
+    ensures input_later { I.fault_count input.old ≤ I.fault_count input.new }
+    ensures input_kept { OnOk result (I.fault_count input.new ≡ I.fault_count input.old) }
+    ensures output_later { O.fault_count output.old ≤ O.fault_count output.new }
+    ensures output_kept { OnOk result (O.fault_count output.new ≡ O.fault_count output.old) }
+{
+    let files = &mut viewer.files;
+    let Some(record) = next_record(&mut files.input, input, &mut files.buffer[..])? else {
+        return Err(Stop::Record(files.count + 1));
+    };
+    files.count += 1;
+    let before = files.frames.count;
+    let octets = record.bytes;
+    let time = time_of(files.head, record.seconds, record.fraction);
+    let original = Original {
+        link: files.head.link,
+        kinds: kinds_by(entry, false, false),
+        octets,
+    };
+    let mut gathered = nothing(alloc, original, wants_of(None, entry));
+    let packets = own_frames(viewer.form, entry.packets);
+    gather(
+        alloc,
+        original,
+        packets,
+        &mut gathered,
+        &mut files.frames,
+        output,
+    )?;
+    let line = run_notes::Line {
+        link: files.head.link,
+        octets,
+        entry,
+    };
+    viewer.tally.note(alloc, line, time, &gathered)?;
+    viewer.owed = answers(viewer.form, entry.packets);
+    hold(viewer.owed, entry, octets, time, &mut viewer.held)?;
+    let shown = Shown {
+        second: false,
+        given: is_both(viewer.form),
+        number: entry.number,
+        time,
+        link: files.head.link,
+        octets,
+        entry,
+        before,
+    };
+    note_line(
+        alloc,
+        &viewer.asked,
+        shown,
+        viewer.owed,
+        &gathered,
+        &mut viewer.printing,
+    )?;
+    Ok(())
+}
+
+// Takes a line of the second engine.
+fn take_second<O: Source>(
+    alloc: Global,
+    viewer: &mut Viewer,
+    entry: &Entry,
+    output: &mut O,
+) -> Result<(), Stop>
+    requires may { MayTake viewer.old }
+    requires owed { 0 < viewer.old.owed }
+    ensures taken { OnOk result ((read : Option (List ℕ)) (head : Head) (before : Ends) (printed : Option (List ℕ)) (items : List Item) →
+        SoFar viewer.old head before (ends_of read (O.left output.old) printed) items →
+        IsEntryOf (version_of_form viewer.old.form) (plain entry.now) → entry.now.number ≡ viewer.old.second_count + 1 →
+        Taken viewer.new head before (ends_of read (O.left output.new) printed) items (line_by true (plain entry.now))) }
+    ensures went { OnOk result (WentOnBy true viewer.old viewer.new) }
+    ensures stops { IfErr result (λ stop. (read written : Option (List ℕ)) (head : Head) (records frames : List Packet) (n : ℕ) (input : Seen) →
+        OutputAt viewer.old.files.frames.reader head written (O.left output.old) frames →
+        LineStops true viewer.old.files read written head records frames (frames_by true viewer.old.form (plain entry.now))
+        n input (O.fault_count output.old) (seen_of (O.left output.new) (O.fault_count output.new)) stop) }
+    ensures output_later { O.fault_count output.old ≤ O.fault_count output.new }
+    ensures output_kept { OnOk result (O.fault_count output.new ≡ O.fault_count output.old) }
+{
+    viewer.owed -= 1;
+    let before = viewer.files.frames.count;
+    let held = &viewer.held;
+    let octets = held.octets.as_slice();
+    let original = Original {
+        link: viewer.files.head.link,
+        kinds: second_kinds(entry, held.judged, viewer.owed),
+        octets,
+    };
+    let mut gathered = nothing(alloc, original, wants_of(held.judged.era, entry));
+    let frames = &mut viewer.files.frames;
+    gather(
+        alloc,
+        original,
+        entry.packets,
+        &mut gathered,
+        frames,
+        output,
+    )?;
+    let tally = &mut viewer.tally;
+    tally.note_second(alloc, held.judged, entry, held.time, &gathered)?;
+    viewer.second_count += 1;
+    let shown = Shown {
+        second: true,
+        given: false,
+        number: held.judged.number,
+        time: held.time,
+        link: viewer.files.head.link,
+        octets,
+        entry,
+        before,
+    };
+    note_line(
+        alloc,
+        &viewer.asked,
+        shown,
+        viewer.owed,
+        &gathered,
+        &mut viewer.printing,
+    )?;
+    Ok(())
+}
