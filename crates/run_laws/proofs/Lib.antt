@@ -1,2 +1,4 @@
 pub mod ReadBack
 pub mod Audits
+pub mod Traces
+pub mod Views

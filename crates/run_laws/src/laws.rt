@@ -1,11 +1,14 @@
 //! Laws of what a finished run wrote.
 ghost use Rattle.run_laws.specs.Audit.{RunsAreAuditedYes};
 ghost use Rattle.run_laws.specs.ReadBack.{RunsAreReadBack};
+ghost use Rattle.run_laws.specs.View.{RunsAreViewedWhole};
 
-use both_sides::laws::{one_puts_its_trace, unbounded_is_written_whole};
-use norm_engine::laws::items_are_counted;
+use both_sides::laws::{one_puts_its_trace, two_put_their_mirror, unbounded_is_written_whole};
+use emit_mtu::laws::{plain_packets_go_out, segments_fit};
+use norm_engine::laws::{items_are_counted, items_go_out};
 use pcap_file::laws::{head_is_read_back, record_is_read_back};
-use run_audit::laws::{answers_are_one, items_are_written_in_order, written_is_yes};
+use run_audit::laws::{answers_are_one, entries_fit, items_are_written_in_order, written_is_yes};
+use run_view::laws::runs_are_viewed;
 
 /// Proves that what a finished run wrote to its capture is read back as the head and one record for
 /// each frame, in order.
@@ -27,4 +30,21 @@ pub fn runs_are_audited_yes()
     items_are_written_in_order();
     written_is_yes();
     answers_are_one();
+}
+
+/// Proves that the capture that a finished run read, and the capture and the report that it wrote,
+/// are those of one list of items, so that a view of them returns 0 or 10, or 8 if memory could not
+/// be allocated, if its words are accepted and nothing fails. `--both` and `--mtu` are covered,
+/// `--inside` is not.
+pub fn runs_are_viewed_whole()
+    ensures { RunsAreViewedWhole }
+{
+    runs_are_read_back();
+    items_are_counted();
+    items_go_out();
+    entries_fit();
+    plain_packets_go_out();
+    segments_fit();
+    two_put_their_mirror();
+    runs_are_viewed();
 }

@@ -1,0 +1,116 @@
+-- The items of a lawful trace have the numbers, the entries and the frames of the lines of a report, as they are made and as they are written.
+use Rattle.std.proofs.Common.{◌≡◌, ℕ, ◌+◌, ◌*◌, ◌<◌, ◌≤◌, Bool, true, false, List, [], ◌∷◌, ◌++◌, length, reverse, Option, Some, None, sym, ap, ◌∙◌, subst, arith}
+use Rattle.std.specs.List.{AllByRecursion}
+use Rattle.std.proofs.lemmas.List.{length-append, length-map, length-reverse}
+use Rattle.wire_base.specs.declared.address.Link.{Link}
+use Rattle.rule_book.specs.Reports.{EntryFits, IsEntryOf}
+use Rattle.norm_settings.specs.Settings.{AreInRange, PlainSettings}
+use Rattle.norm_engine.specs.Items.{Item, entries}
+use Rattle.norm_engine.specs.Laws.{IsCounted, IsSound, ItemsAreCounted}
+use Rattle.norm_engine.specs.Outgoing.{IsOutgoing, ItemsGoOut}
+use Rattle.norm_engine.proofs.ItemFrames.{none_before}
+use Rattle.emit_mtu.specs.Laws.{AreFew}
+use Rattle.emit_mtu.specs.Streams.{PlainHeadersAreWhole}
+use Rattle.both_sides.specs.Cut.{HaveFrameOctets, frames_written, item_written, rules_cut, written}
+use Rattle.both_sides.specs.RunLaws.{TwoPutTheirMirror}
+use Rattle.both_sides.proofs.Frames.{all_sent, written_few}
+use Rattle.both_sides.proofs.Outputs.{packets_written, version_written}
+use Rattle.run_audit.specs.Lawful.{EntriesFit, frames_written as frames_of_trace}
+use Rattle.run_view.specs.Laws.{RunsAreViewed}
+use Rattle.run_laws.specs.ReadBack.{RunsAreReadBack}
+
+-- behind so many items an item has the next number, counts its frames, and its entry is one of version 2
+pub record Good (before : ℕ) (item : Item) : Type 0 where
+  pub fits : IsEntryOf 2 item.entry
+  pub number : item.entry.number ≡ before + 1
+  pub packets : item.entry.packets ≡ length item.frames
+
+abbrev pub AreGood : List Item → Type 0
+AreGood [] = Unit {0}
+AreGood (item ∷ older) = Good (length older) item × AreGood older
+
+pub good_behind : (front back : List Item) → AreGood (front ++ back) → AreGood back
+good_behind [] back good = good
+good_behind (item ∷ front) back good = good_behind front back good.1
+
+pub record ViewLaws : Type 0 where
+  pub read_back : RunsAreReadBack
+  pub counted : ItemsAreCounted
+  pub outgoing : ItemsGoOut
+  pub fit : EntriesFit
+  pub whole : PlainHeadersAreWhole
+  pub few : AreFew
+  pub mirror : TwoPutTheirMirror
+  pub viewed : RunsAreViewed
+
+rules_few : (cut kept_back : Bool) → length (rules_cut cut kept_back) ≤ 2
+rules_few true true = omega arith
+rules_few true false = omega arith
+rules_few false true = omega arith
+rules_few false false = omega arith
+
+-- an entry as it is written is in the ranges of a report
+entry_fits : (mtu : Option ℕ) (link : Link) (item : Item) → EntryFits item.entry → length item.entry.rules ≤ 14
+    → length (frames_written mtu link item.frames) < 256 → EntryFits (item_written mtu link item).entry
+entry_fits None link item fits named few = fits
+entry_fits (Some mtu) link item fits named few =
+    record {
+      number = fits.number;
+      packets = omega (arith, few);
+      rules = rules _ _;
+      era = fits.era;
+      begun = fits.begun;
+      ended = fits.ended;
+      eras = fits.eras;
+    }
+  where
+    rules : (cut kept_back : Bool) → length (item.entry.rules ++ rules_cut cut kept_back) ≤ 16
+    rules cut kept_back = omega (arith, length-append item.entry.rules (rules_cut cut kept_back), rules_few cut kept_back, named)
+
+module _ (laws : ViewLaws) (settings : PlainSettings) (link : Link) where
+  counts : (item : Item) (older : List Item) → IsSound settings link (item ∷ older) → IsCounted item
+  counts item older sound = subst IsCounted (sym sound.lawful.1) (laws.counted settings link older item.packet)
+
+  pub good : (trace : List Item) → IsSound settings link trace → AllByRecursion EntryFits (entries trace) → AreGood trace
+  good [] sound fits = tt
+  good (item ∷ older) sound fits = (
+    record {
+      fits = record { fits = fits.0; octets = (counts item older sound).octets };
+      number = ap (λ (x : Item). x.entry.number) sound.lawful.1;
+      packets = (counts item older sound).packets;
+    },
+    good older (none_before settings link item older sound) fits.1,
+  )
+
+  pub good_written : (range : AreInRange settings) (trace : List Item) → IsSound settings link trace → HaveFrameOctets settings.mtu trace
+      → AllByRecursion EntryFits (entries trace) → AreGood (written settings link trace)
+  good_written range [] sound octets fits = tt
+  good_written range (item ∷ older) sound octets fits =
+      let counted = counts item older sound in
+      let out = laws.outgoing settings link older item.packet sound.hops sound.octets.0 sound.octets.1 in
+      let goes = subst (IsOutgoing link) (sym sound.lawful.1) out in
+      let few = written_few laws.few settings.mtu link item.frames range.mtu (all_sent laws.whole link item.frames goes.each) octets.0 goes.behind counted.few in (
+        record {
+          fits =
+              record { fits = entry_fits settings.mtu link item fits.0 goes.few few; octets = version_written settings.mtu link item counted.octets };
+          number = number settings.mtu ∙ ap (λ n. n + 1) (sym (length-map older (item_written settings.mtu link)));
+          packets = packets_written settings.mtu link item counted;
+        },
+        good_written range older (none_before settings link item older sound) octets.1 fits.1,
+      )
+    where
+      number : (mtu : Option ℕ) → (item_written mtu link item).entry.number ≡ length older + 1
+      number None = ap (λ (x : Item). x.entry.number) sound.lawful.1
+      number (Some mtu) = ap (λ (x : Item). x.entry.number) sound.lawful.1
+
+  -- at most two frames for each record
+  pub frames_few : (trace : List Item) → IsSound settings link trace → length (frames_of_trace trace) ≤ 2 * length trace
+  frames_few [] sound = omega arith
+  frames_few (item ∷ older) sound =
+      omega (
+        arith,
+        length-append (reverse item.frames) (frames_of_trace older),
+        length-reverse item.frames,
+        (counts item older sound).few,
+        frames_few older (none_before settings link item older sound),
+      )

@@ -1,0 +1,32 @@
+-- The view of what a finished run read and wrote (this project's profile).
+use Rattle.std.specs.Prelude.{◌≡◌, ◌⊎◌, ℕ, ◌-◌, ◌^◌, ◌≤◌, List, ◌++◌, length, Option, Some, None}
+use Rattle.wire_base.specs.declared.address.Link.{Link}
+use Rattle.norm_settings.specs.Settings.{AreInRange, PlainSettings}
+use Rattle.both_sides.specs.Puts.{count_put, puts}
+use Rattle.both_sides.specs.Runs.{RunTrace, packets_of}
+use Rattle.bridge_run.specs.Theorem.{Normalized}
+use Rattle.run_view.specs.Laws.{AreOfARun, HasFiles, NothingFails}
+use Rattle.run_view.specs.Viewed.{IsToItsEnd, Moment, Stopped}
+use Rattle.run_view.specs.Words.{asked_in}
+use Rattle.run_view.specs.declared.words.Asked.{Asked}
+
+-- the run has at most 2^31 - 1 records, and wrote at most 2^32 - 1 frames, as many as a capture may have
+pub record FitsACapture (settings : PlainSettings) (link : Link) (run : RunTrace) : Type 0 where
+  pub records : length (packets_of run) ≤ 2 ^ 31 - 1
+  pub frames : count_put (puts settings link run) ≤ 2 ^ 32 - 1
+
+-- Three files are those of a finished run, and a view of them returns 0 or 10, or 8 if memory could not be allocated, if its words are accepted and nothing
+-- fails.
+pub record IsViewed (input output report : List ℕ) : Type 0 where
+  pub files : AreOfARun input output report
+  pub returns : (words : List (List ℕ)) (asked : Asked) (before now : Moment) (status : ℕ) → asked_in words ≡ Some asked
+      → HasFiles before input output report
+      → NothingFails before now → IsToItsEnd status ⊎ Stopped words before now status → IsToItsEnd status ⊎ (status ≡ 8)
+
+-- This holds of the capture that a finished run read and of the two files that it wrote, after what they held before: by one engine, with an MTU or without,
+-- and by two. The settings are in their ranges, and no inside interface is named.
+abbrev pub RunsAreViewedWhole : Type 0
+RunsAreViewedWhole =
+    (settings : PlainSettings) (source' : Option (List ℕ)) (input held capture told report : List ℕ) → AreInRange settings → settings.inside ≡ None
+    → (done : Normalized settings (Some input) source' (Some held) (Some (held ++ capture)) (Some told) (Some (told ++ report)))
+    → FitsACapture settings done.head.link done.run → IsViewed input capture report
