@@ -14,10 +14,10 @@ usage: normview [OPTION..] IN OUT REPORT
   REPORT  its report, of version 1 or 2, also of a run with --both
 
 The files are those of a finished run. They are read in step, a record at a time:
-memory grows with the eras alone. A summary is printed: verdicts by side, frames,
+memory grows with eras and datagrams in fragments. A summary is printed: verdicts by side, frames,
 each rule that was named with its number and a sentence, eras by their end and by
-what opened them; then a line for each era. norm-report(5) explains the words of a
-report.
+what opened them; then a line for each era, and notes on an IN that lacks packets or
+is bad in another way. norm-report(5) explains the words of a report.
 
 Options go before IN, each at most once, as --name=VALUE or --name VALUE. A LIST has
 its items between commas, each once. With one or more of the first five, all lines of
@@ -29,6 +29,7 @@ the records that meet each of them are printed, and how many such records there 
   --side LIST   records with one of these sides: in, out, -
   --host A      records from or to this address or prefix: 10.0.0.1, 10.0.0.0/8
   --json        JSON objects, one a line
+  --notes       the notes on IN alone, and 10 if one says that IN may be bad; with no choice
   --table NAME  a table, its cells with tabs between them: records or eras; eras with no choice
 
 The line of a record has these parts; what a record lacks is left out:
@@ -75,8 +76,9 @@ Status and last line:
   7  none: the output could not be written, or was cut off
   8  stop memory: memory could not be allocated
   9  stop report N: line N of REPORT belongs to no report of a finished run
+ 10  none: with --notes, a note says that IN may be bad
 
-From 2 on one line on standard error says why.
+From 2 to 9 one line on standard error says why.
 
 KIND is magic, version, link, block, long or many, as in a report. What was printed
 before a last line stays.
