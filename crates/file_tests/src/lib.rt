@@ -8,4 +8,8 @@ mod changes;
 #[cfg(test)]
 mod lines;
 #[cfg(test)]
+mod notes;
+#[cfg(test)]
+mod view_stops;
+#[cfg(test)]
 mod views;

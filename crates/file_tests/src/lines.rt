@@ -5,6 +5,7 @@ use frame_view::{
     Change, Field, Flow, IcmpMarks, Made, PayloadChange, Ports, Replaced, Said, TcpMarks,
 };
 use rule_book::{Ended, Entry, Reason, Rule, Verdict};
+use run_notes::NumberCount;
 use serde_json::Value;
 use std::alloc::Global;
 use view_text::{
@@ -411,6 +412,15 @@ fn a_run_has_its_counts(rt: HostRuntime) -> Result<(), NoMemory> {
         first: sides,
         second: None,
         frames: 3,
+        unfinished: 2,
+        types: &[NumberCount {
+            number: 0x86dd,
+            count: 3,
+        }],
+        protocols: &[NumberCount {
+            number: 47,
+            count: 1,
+        }],
         rules: &[RuleCount {
             rule: Rule::TClash,
             inward: 2,
@@ -427,6 +437,7 @@ fn a_run_has_its_counts(rt: HostRuntime) -> Result<(), NoMemory> {
     assert_eq!(rt;
         summary_line(alloc, Format::Text, &summary)?.as_str(),
         "records 10\nin pass 1 fix 2 hold 3 drop 4\nout pass 0 fix 0 hold 0 drop 0\n- pass 0 fix 0 hold 0 drop 0\nframes 3\n\
+         unfinished 2\ntype 0x86dd 3\nprotocol 47 1\n\
          rule T_CLASH 3 (octets that differ from those first sent at their offsets are replaced)\n\
          eras 1 live 1 reset 0 evicted 0 idle 0 reopened 0 opened in 1 out 0 mid 0\n"
     );
@@ -436,11 +447,15 @@ fn a_run_has_its_counts(rt: HostRuntime) -> Result<(), NoMemory> {
             summary_line(alloc, Format::Json, &summary)?.as_str(),
             "{\"event\":\"summary\",\"records\":10,\"in\":{\"pass\":1,\"fix\":2,\"hold\":3,\"drop\":4},\"out\":{\"pass\":0,\"fix\":0,\"hold\":0,\"drop\":0},\
          \"neither\":{\"pass\":0,\"fix\":0,\"hold\":0,\"drop\":0},\"second_in\":null,\"second_out\":null,\"second_neither\":null,\"frames\":3,\
+         \"unfinished\":2,\"types\":[{\"type\":\"0x86dd\",\"count\":3}],\"protocols\":[{\"protocol\":47,\"count\":1}],\
          \"rules\":[{\"rule\":\"T_CLASH\",\"in\":2,\"out\":1,\"neither\":0}],\
          \"eras\":{\"all\":1,\"live\":1,\"reset\":0,\"evicted\":0,\"idle\":0,\"reopened\":0,\"opened_in\":1,\"opened_out\":0,\"opened_mid\":0}}",
         )
     );
     summary.second = Some(Sides::default());
+    summary.unfinished = 0;
+    summary.types = &[];
+    summary.protocols = &[];
     summary.rules = &[];
     assert_eq!(rt;
         summary_line(alloc, Format::Text, &summary)?.as_str(),

@@ -11,7 +11,7 @@ const HEAD: [u8; 24] = [
 ];
 
 /// A SYN from 198.51.100.7:40000 to 10.0.0.1:80 with the sequence number 999, without checksums.
-const SYN: [u8; 40] = [
+pub(crate) const SYN: [u8; 40] = [
     0x45, 0, 0, 40, 0, 1, 0, 0, 64, 6, 0, 0, 198, 51, 100, 7, 10, 0, 0, 1, 0x9c, 0x40, 0, 80, 0, 0,
     3, 0xe7, 0, 0, 0, 0, 0x50, 2, 0x20, 0, 0, 0, 0, 0,
 ];
@@ -48,7 +48,7 @@ fn line(alloc: Global, words: &[&str]) -> Result<Vec<String>, AllocError> {
 }
 
 /// A capture of these records, the first at second 1 and each later one a second after.
-fn capture(alloc: Global, records: &[&[u8]]) -> Result<Vec<u8>, AllocError> {
+pub(crate) fn capture(alloc: Global, records: &[&[u8]]) -> Result<Vec<u8>, AllocError> {
     let mut file = Vec::from_slice(alloc, &HEAD)?;
     let mut second = 1u8;
     for octets in records {
@@ -61,7 +61,7 @@ fn capture(alloc: Global, records: &[&[u8]]) -> Result<Vec<u8>, AllocError> {
 }
 
 /// The status and the text of the view of a run.
-fn viewed(
+pub(crate) fn viewed(
     alloc: Global,
     words: &[&str],
     input: Vec<u8>,
@@ -86,7 +86,7 @@ fn viewed(
     Ok((status, Vec::from_slice(alloc, out.held())?))
 }
 
-const REPORT: &str =
+pub(crate) const REPORT: &str =
     "norm 2\n1 in pass 1 @1 +1\n2 - drop 0 I_SHORT\n3 in fix 1 T_CLASH @1 -1:idle:0\nend 3 2\n";
 
 const SUMMARY: &str = "records 3
@@ -104,7 +104,7 @@ const DROPPED: &str =
     "2 1970-01-01T00:00:02.000007000Z - - > - - len 3 drop I_SHORT (the packet has fewer than 20 octets) frames 0\nchosen 1\n";
 
 /// The status and the text of the view of the run above, with this report.
-fn run_viewed(
+pub(crate) fn run_viewed(
     alloc: Global,
     words: &[&str],
     report: &str,
@@ -115,7 +115,7 @@ fn run_viewed(
     viewed(alloc, words, input, output, report, failing)
 }
 
-const FILES: [&str; 3] = ["in", "out", "report"];
+pub(crate) const FILES: [&str; 3] = ["in", "out", "report"];
 
 #[test]
 fn run_is_viewed(rt: HostRuntime) -> Result<(), Fail> {
@@ -131,62 +131,6 @@ fn chosen_records_are_printed(rt: HostRuntime) -> Result<(), Fail> {
     let (status, text) = run_viewed(rt.alloc(), &words, REPORT, [0; 4])?;
     assert_eq!(rt; status, 0);
     assert_eq!(rt; text.as_slice(), DROPPED.as_bytes());
-    Ok(())
-}
-
-/// The line of a view that stops, and its status.
-#[test]
-fn views_stop(rt: HostRuntime) -> Result<(), Fail> {
-    let alloc = rt.alloc();
-    let refused: [&[&str]; 9] = [
-        &["in", "out"],
-        &["--rule=T_OLD,T_OLD", "in", "out", "report"],
-        &["--only=pass,", "in", "out", "report"],
-        &["--side=up", "in", "out", "report"],
-        &["--era=second:0", "in", "out", "report"],
-        &["--host=10.0.0.256", "in", "out", "report"],
-        &["--host", "10.0.0.1/33", "in", "out", "report"],
-        &["--table=eras", "--side=in", "in", "out", "report"],
-        &["--table=records", "--table", "eras", "in", "out", "report"],
-    ];
-    for words in refused {
-        let (found, text) = run_viewed(alloc, words, REPORT, [0; 4])?;
-        assert_eq!(rt; found, 2);
-        assert_eq!(rt; text.as_slice(), b"stop words\n".as_slice());
-    }
-    let rows: [(&[&str], &str, &str, u8); 6] = [
-        (
-            &["--era", "0", "in", "out", "report"],
-            REPORT,
-            "stop words\n",
-            2,
-        ),
-        (&FILES, "norm 3\n", "stop report 1\n", 9),
-        (
-            &FILES,
-            "norm 2\n1 in pass 1\n3 in pass 1\n",
-            "stop report 3\n",
-            9,
-        ),
-        (&FILES, "norm 2\n1 in pass 1\nend 1 1\n", "no record 2\n", 1),
-        (
-            &FILES,
-            "norm 2\n1 in pass 1\n2 in pass 1\n3 in pass 1\n",
-            "no frame 3\n",
-            1,
-        ),
-        (
-            &FILES,
-            "norm 2\n1 in pass 1\nstop cut 24\n",
-            "stop report 3\n",
-            9,
-        ),
-    ];
-    for (words, report, line, status) in rows {
-        let (found, text) = run_viewed(alloc, words, report, [0; 4])?;
-        assert_eq!(rt; found, status);
-        assert_eq!(rt; text.as_slice(), line.as_bytes());
-    }
     Ok(())
 }
 
@@ -489,6 +433,7 @@ out pass 1 fix 0 hold 0 drop 0
 frames 3
 eras 1 live 0 reset 1 evicted 0 idle 0 reopened 0 opened in 0 out 0 mid 1
 era 1 198.51.100.7:40000 <-> 10.0.0.1:80 opened mid 1970-01-01T00:00:01.000007000Z 1970-01-01T00:00:03.000007000Z records 3 sent 8 octets 4 reset
+note half eras 1 octets 0: IN begins in mid-connection, or is one of several files: mergecap -a -w - PARTS, and run norm on all of them
 ";
 
 #[test]
@@ -500,91 +445,5 @@ fn eras_have_the_outside_host_first(rt: HostRuntime) -> Result<(), Fail> {
     let (status, text) = viewed(alloc, &FILES, input, output, report, [0; 4])?;
     assert_eq!(rt; status, 0);
     assert_eq!(rt; text.as_slice(), TURNED.as_bytes());
-    Ok(())
-}
-
-/// The last line and the status of a view of a report of two engines, or of one with a line of a second.
-#[test]
-fn views_of_two_engines_stop(rt: HostRuntime) -> Result<(), Fail> {
-    let alloc = rt.alloc();
-    let rows = [
-        (
-            "norm 2 both\n1 in pass 1\n2 in pass 1\n",
-            "stop report 3\n",
-            9,
-        ),
-        ("norm 2 both\n1 in pass 1\nend 1 0\n", "stop report 3\n", 9),
-        (
-            "norm 2 both\n1 in pass 1\n/2 in pass 1\n",
-            "stop report 3\n",
-            9,
-        ),
-        (
-            "norm 2 both\n1 in drop 0\n/1 in pass 1\n",
-            "stop report 3\n",
-            9,
-        ),
-        ("norm 2\n1 in pass 1\n/1 in pass 1\n", "stop report 3\n", 9),
-        (
-            "norm 2 both\n1 in drop 0\n2 - drop 0\n3 in pass 2\n/1 in pass 1\n/2 in pass 1\nend 3 2\nx",
-            "stop report 8\n",
-            9,
-        ),
-        (
-            "norm 2 both\n1 in drop 0\n2 in drop 0\n3 in drop 0\n4 in drop 0\n",
-            "no record 4\n",
-            1,
-        ),
-        (
-            "norm 2 both\n1 in drop 0\n2 in drop 0\nend 2 0\n",
-            "no record 3\n",
-            1,
-        ),
-        (
-            "norm 2 both\n1 in pass 3\n/1 in pass 3\n",
-            "no frame 3\n",
-            1,
-        ),
-        (
-            "norm 2 both\n1 in drop 0\n2 in pass 1\n/1 out pass 1\n3 in drop 0\nend 3 1\n",
-            "no frame 2\n",
-            1,
-        ),
-    ];
-    for (report, line, wanted) in rows {
-        let (status, text) = run_viewed(alloc, &FILES, report, [0; 4])?;
-        assert_eq!(rt; status, wanted);
-        assert_eq!(rt; text.as_slice(), line.as_bytes());
-    }
-    Ok(())
-}
-
-#[test]
-fn output_of_another_link_stops(rt: HostRuntime) -> Result<(), Fail> {
-    let alloc = rt.alloc();
-    let input = capture(alloc, &[&SYN])?;
-    let mut output = capture(alloc, &[&SYN])?;
-    if 20 < output.len() {
-        output[20] = 1;
-    }
-    let report = "norm 2\n1 in pass 1\nend 1 1\n";
-    let (status, text) = viewed(alloc, &FILES, input, output, report, [0; 4])?;
-    assert_eq!(rt; status, 3);
-    assert_eq!(rt; text.as_slice(), b"stop out link 0\n".as_slice());
-    Ok(())
-}
-
-#[test]
-fn failures_stop(rt: HostRuntime) -> Result<(), Fail> {
-    let alloc = rt.alloc();
-    for source in 0..3 {
-        let mut failing = [0; 4];
-        failing[source] = 3;
-        let (status, text) = run_viewed(alloc, &FILES, REPORT, failing)?;
-        assert_eq!(rt; status, 5);
-        assert_eq!(rt; text.as_slice(), b"stop read\n".as_slice());
-    }
-    let (status, _) = run_viewed(alloc, &FILES, REPORT, [0, 0, 0, 1])?;
-    assert_eq!(rt; status, 7);
     Ok(())
 }
