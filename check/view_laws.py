@@ -4,7 +4,7 @@ changes, or one that norm made."""
 import ipaddress
 import json
 
-from norm_model.capture import read_head, read_records
+from norm_model.capture import ETHERNET, read_head, read_records
 from norm_model.formats import four, two
 from norm_model.run import read_input
 from norm_model.sentences import SENTENCES
@@ -37,10 +37,13 @@ def broken_of_whole(files):
     values = [json.loads(line) for line in as_json[1].splitlines()]
     records = [value for value in values if value["event"] == "record"]
     eras = [value for value in values if value["event"] == "era"]
-    if [value["event"] for value in values] != ["record"] * len(records) + ["summary"] + ["era"] * len(eras):
+    notes = [value for value in values if value["event"] == "note"]
+    if [value["event"] for value in values] != ["record"] * len(records) + ["summary"] + ["era"] * len(eras) + ["note"] * len(notes):
         return "objects in another order"
-    return text_law(records, every[1]) or summary_law(records, values[len(records)], eras, summary, files) or table_law(records, tables[0][1]) \
-        or table_law(eras, tables[1][1]) or choice_law(records, files) or frames_law(records, eras, files)
+    lines = summary.splitlines()
+    text, said = lines[:len(lines) - len(notes)], lines[len(lines) - len(notes):]
+    return text_law(records, every[1]) or summary_law(records, values[len(records)], eras, text, files) or table_law(records, tables[0][1]) \
+        or table_law(eras, tables[1][1]) or choice_law(records, files) or frames_law(records, eras, files) or notes_law(records, notes, said, files)
 
 
 def stop_law(status, summary, as_json, texts):
@@ -206,7 +209,9 @@ def summary_text(value):
     """The lines of the object."""
     texts = ["records %d" % value["records"]] + [line for name in ("in", "out", "neither", "second_in", "second_out", "second_neither")
                                                  for line in counted(value, name)]
-    texts += ["frames %d" % value["frames"]]
+    texts += ["frames %d" % value["frames"]] + (["unfinished %d" % value["unfinished"]] if value["unfinished"] else [])
+    texts += ["type %s %d" % (one["type"], one["count"]) for one in value["types"]]
+    texts += ["protocol %d %d" % (one["protocol"], one["count"]) for one in value["protocols"]]
     texts += ["rule %s %d (%s)" % (one["rule"], one["in"] + one["out"] + one["neither"], SENTENCES[one["rule"]]) for one in value["rules"]]
     eras = value["eras"]
     return texts + ["eras %d" % eras["all"] + "".join(" %s %d" % (end, eras[end]) for end in ("live", "reset", "evicted", "idle", "reopened"))
@@ -214,7 +219,21 @@ def summary_text(value):
                     + "".join(" %s %d" % (way, eras["opened_" + way]) for way in ("in", "out", "mid"))]
 
 
-def summary_law(records, value, eras, summary, files):
+def not_judged(records, value, link):
+    """The lines of what was not judged; of the fragments only whether there may be so many."""
+    firsts = [one for one in records if one["by"] == "first"]
+    held = sum("F_HELD" in one["rules"] for one in firsts)
+    assert 0 <= value["unfinished"] <= held, "more unfinished fragments than are held"
+    frames = [one for one in firsts if "L_TYPE" in one["rules"] and link == ETHERNET]
+    types = [2054 if one["ethertype"] == "arp" else int(one["ethertype"] or "0800", 16) for one in frames if one["ethertype"] or one["src_ip"]]
+    packets = [one for one in firsts if "P_PROTO" in one["rules"] and one["proto"]]
+    numbers = [{"icmp": 1, "tcp": 6, "udp": 17}.get(one["proto"]) or int(one["proto"]) for one in packets]
+    lines = ["unfinished %d" % value["unfinished"]] if value["unfinished"] else []
+    return lines + ["type 0x%04x %d" % (kind, types.count(kind)) for kind in dict.fromkeys(types)] \
+        + ["protocol %d %d" % (number, numbers.count(number)) for number in dict.fromkeys(numbers)]
+
+
+def summary_law(records, value, eras, text, files):
     lines = files[2].decode("ascii").splitlines()
     both, last, lines = lines[0].endswith(" both"), lines[-1].split(" "), lines[1:-1]
     behind = [line for line in lines if line.startswith("/")]
@@ -222,11 +241,12 @@ def summary_law(records, value, eras, summary, files):
     wanted += side_lines(behind, "second ") if both else []
     named = [(word, line.split(" ")[1]) for line in lines for word in line.split(" ") if word in SENTENCES]
     rules = list(dict.fromkeys(rule for rule, _ in named))
-    wanted += ["frames " + last[2]] + ["rule %s %d (%s)" % (rule, sum(rule == one for one, _ in named), SENTENCES[rule]) for rule in rules]
+    wanted += ["frames " + last[2]] + not_judged(records, value, read_input(files[0], None)[0].link)
+    wanted += ["rule %s %d (%s)" % (rule, sum(rule == one for one, _ in named), SENTENCES[rule]) for rule in rules]
     found, ways = [era["end"] for era in eras], [era["opened"] for era in eras]
     wanted.append(" ".join(["eras %d" % len(eras)] + ["%s %d" % (end, found.count(end)) for end in ("live", "reset", "evicted", "idle", "reopened")]
                            + ["opened"] + ["%s %d" % (way, ways.count(way)) for way in ("in", "out", "mid")]))
-    if summary.splitlines() != wanted + [era_line(era) for era in eras] or summary_text(value) != wanted:
+    if text != wanted + [era_line(era) for era in eras] or summary_text(value) != wanted:
         return "the summary is not that of the report"
     if [[one[name] for name in ("in", "out", "neither")] for one in value["rules"]] != [[named.count((rule, side)) for side in ("in", "out", "-")]
                                                                                         for rule in rules]:
@@ -238,6 +258,39 @@ def summary_law(records, value, eras, summary, files):
     if any(ended.get((era["by"], era["era"]), ("live", None)) != (era["end"], era["octets"]) for era in eras):
         return "an era has another end than its record says"
     return None if sorted(eras, key=lambda era: era["by"]) == eras else "an era of the second engine before one of the first"
+
+
+# The notes are those of --notes, and what one counts by a rule is not more than lines have
+
+ALONE = {"tagged": "L_TYPE", "ipv6": "L_TYPE", "tunnels": "P_PROTO", "foreign": "I_SIDE", "cut": "L_SNAP"}
+
+NOTES = ["lost", "order", "half", "one", "card", "wrong", "twice", "foreign", "tagged", "ipv6", "tunnels", "full", "cut"]
+
+HARMLESS = ["tagged", "ipv6", "tunnels"]
+
+
+def note_text(value):
+    counts = " ".join("%s %d" % (key.replace("_", "-"), count) for key, count in value.items() if key not in ("event", "note", "advice"))
+    return "note %s %s: %s" % (value["note"], counts, value["advice"])
+
+
+def notes_law(records, notes, said, files):
+    """`said`: the last lines of the text."""
+    found = [value["note"] for value in notes]
+    status = 10 if any(name not in HARMLESS for name in found) else 0
+    if view(["--notes"] + NAMES, files) != (status, "".join(line + "\n" for line in said)) or said != [note_text(value) for value in notes]:
+        return "the notes alone, as text or as JSON are others"
+    as_json = view(["--notes", "--json"] + NAMES, files)
+    if (as_json[0], [json.loads(line) for line in as_json[1].splitlines()]) != (status, notes):
+        return "the notes alone as JSON are others"
+    if found != [name for name in NOTES if name in found] or ("lost" in found and "order" in found):
+        return "notes in another order, or two that are not beside each other"
+    firsts = [one for one in records if one["by"] == "first"]
+    for name, rule in ALONE.items():
+        count = sum(value["records"] for value in notes if value["note"] == name)
+        if count > sum(rule in one["rules"] for one in firsts):
+            return "%s counts more than lines have %s" % (name, rule)
+    return None
 
 
 # A frame is its record with the changes

@@ -6,7 +6,7 @@ from types import SimpleNamespace
 from norm_model.formats import ICMP, TCP, UDP, read_ipv4
 from norm_model.packets import INSIDE, OUTSIDE, capture_of, head, icmp, inward, ipv4, opening, outward, record, segment, udp
 from norm_model.rule_names import RULES
-from norm_model.sentences import SENTENCES
+from norm_model.sentences import ADVICE, SENTENCES
 
 ROWS = []
 
@@ -44,7 +44,10 @@ RECORD = ("event record by number time seconds nanoseconds side src_ip src_port 
 ERA = ("event era by outside_ip outside_port inside_ip inside_port opened first first_seconds first_nanoseconds last last_seconds last_nanoseconds "
        "records sent octets end rules").split()
 
-SUMMARY = "event records in out neither second_in second_out second_neither frames rules eras".split()
+SUMMARY = "event records in out neither second_in second_out second_neither frames unfinished types protocols rules eras".split()
+
+# What a summary mostly has of three of them.
+NOTHING_ELSE = {"unfinished": 0, "types": [], "protocols": []}
 
 
 def as_json(names, **values):
@@ -97,7 +100,7 @@ row("the outside host comes first in an era that the inside host begins", OUTWAR
     ["records 2", "in pass 0 fix 0 hold 0 drop 0", "out pass 2 fix 0 hold 0 drop 0", "- pass 0 fix 0 hold 0 drop 0", "frames 2",
      "eras 2 live 2 reset 0 evicted 0 idle 0 reopened 0 opened in 0 out 1 mid 1",
      "era 1 " + PAIR + " opened out EPOCH EPOCH records 1 sent 0 live",
-     "era 2 198.51.100.7:40001 <-> 10.0.0.1:80 opened mid EPOCH EPOCH records 1 sent 0 live"])
+     "era 2 198.51.100.7:40001 <-> 10.0.0.1:80 opened mid EPOCH EPOCH records 1 sent 0 live", "note half eras 1 octets 0: " + ADVICE["half"]])
 
 AGAIN = capture_of(opening() + [segment("> PA 1000,5001 abcd")] * 2 + [segment("< RA 5001,1004")])
 
@@ -319,8 +322,8 @@ FIRST_ERA = dict(event="era", era=1, outside_ip="198.51.100.7", outside_port=400
 
 row("one record of both engines as JSON", capture_of(opening()[:1]), "--json",
     [as_json(RECORD, **SYN, by="first", side="in", given=1), as_json(RECORD, **SYN, by="second", side="out", out=[1]),
-     as_json(SUMMARY, event="summary", records=1, **{"in": counts(1)}, out=counts(), neither=counts(), second_in=counts(), second_out=counts(1),
-             second_neither=counts(), frames=1, rules=[], eras=LIVE),
+     as_json(SUMMARY, **NOTHING_ELSE, event="summary", records=1, **{"in": counts(1)}, out=counts(), neither=counts(), second_in=counts(),
+             second_out=counts(1), second_neither=counts(), frames=1, rules=[], eras=LIVE),
      as_json(ERA, **FIRST_ERA, by="first", rules=[]), as_json(ERA, **FIRST_ERA, by="second", rules=[])], options="--both")
 
 row("the same as a table", capture_of(opening()[:1]), "--table records",
@@ -334,7 +337,7 @@ row("the summary of one engine as JSON", FLOOD, "--json",
     [as_json(RECORD, **{**SYN, "record": number, "number": number, "src_port": port, "era": number, "begun": number, "ended": ended}, by="first",
              side="in", out=[number])
      for number, port, ended in ((1, 40000, []), (2, 40001, []), (3, 40002, [{"era": 1, "reason": "evicted", "octets": 0}]))]
-    + [as_json(SUMMARY, event="summary", records=3, **{"in": counts(3)}, out=counts(), neither=counts(), frames=3, rules=[],
+    + [as_json(SUMMARY, **NOTHING_ELSE, event="summary", records=3, **{"in": counts(3)}, out=counts(), neither=counts(), frames=3, rules=[],
                eras=dict(LIVE, all=3, evicted=1, opened_in=3))]
     + [as_json(ERA, **{**FIRST_ERA, "era": number, "outside_port": port, **more}, by="first", rules=[])
        for number, port, more in ((1, 40000, {"end": "evicted", "octets": 0}), (2, 40001, {}), (3, 40002, {}))], options="--flows 2")
@@ -515,7 +518,7 @@ SA = dict(SYN, record=2, number=2, src_ip="10.0.0.1", src_port=80, dest_ip="198.
 row("the rules of each side as JSON", capture_of(opening()[:2]), "--json",
     [as_json(RECORD, **dict(SYN, era=None, rules=["T_SYN"]), by="first", side="in", out=[1]),
      as_json(RECORD, **dict(SA, era=None, rules=["T_SYN", "I_TRAIL", "T_SYN"]), by="first", out=[2]),
-     as_json(SUMMARY, event="summary", records=2, **{"in": counts(1)}, out=counts(), neither=counts(1), frames=2,
+     as_json(SUMMARY, **NOTHING_ELSE, event="summary", records=2, **{"in": counts(1)}, out=counts(), neither=counts(1), frames=2,
              rules=[{"rule": "T_SYN", "in": 1, "out": 0, "neither": 2}, {"rule": "I_TRAIL", "in": 0, "out": 0, "neither": 1}],
              eras=dict(LIVE, all=1, live=1, opened_in=1)),
      as_json(ERA, **{**FIRST_ERA, "first": None, "first_seconds": None, "first_nanoseconds": None, "last": None, "last_seconds": None,

@@ -5,6 +5,7 @@ import random
 
 from makers.audits import changed_capture, changed_report
 from makers.files import both_words, make_capture, make_pcapng
+from makers.noted import noted_run
 from norm_model.built import WHOLE
 from norm_model.capture import ETHERNET, RAW, read_head, read_records
 from norm_model.formats import ICMP, TCP, UDP, four, two
@@ -84,7 +85,8 @@ BAD_OPTIONS = [words.split(" ") for words in [
     "--host=1.0.0.1 --host=1.0.0.2",
     "--table", "--table=", "--table=record", "--table=Eras", "--table --json", "--table=eras --table=eras", "--table=records --json",
     "--json --table eras", "--table=eras --only=drop", "--era=1 --table=eras", "--table=eras --host=10.0.0.1", "--table=eras --side=in",
-    "--rule=T_OLD --table=eras", "--", "-", "-j", "--rul=T_CLASH", "--rules=T_CLASH", "--hops=30", "--help", "-h", "--version", "",
+    "--rule=T_OLD --table=eras", "--notes --notes", "--notes=", "--notes=1", "--notes --table=records", "--table eras --notes", "--notes --only=drop",
+    "--era=1 --notes", "--notes --json --side=in", "--note", "--", "-", "-j", "--rul=T_CLASH", "--rules=T_CLASH", "--hops=30", "--help", "-h", "--version", "",
 ]] + [["--rule", "T_CLASH, T_OLD"], ["--era=second: 1"], ["--side", ""]]
 
 
@@ -399,6 +401,18 @@ def run_files(number, rng):
     return free_view(rng)
 
 
+def noted_files(rng):
+    """The three files of a run on bad input."""
+    options, octets = noted_run(rng)
+    _, written, text = run(["run"] + options + ["IN", "OUT", "10.0.0.0/8"], octets, WHOLE)
+    return [octets, written, text.encode()]
+
+
+def note_words(rng):
+    """Words of a view that has notes."""
+    return rng.choice([["--notes"], ["--notes"], ["--notes", "--json"], ["--json", "--notes"], ["--json"], [], []])
+
+
 def make_view(number):
     """The words, in which IN, OUT and REPORT stand for the names, and the octets of the three files; one that is None is not there."""
     rng = random.Random("view " + number)
@@ -406,10 +420,12 @@ def make_view(number):
         if rng.random() < 0.4:
             return edge_words(rng) + ["IN", "OUT", "REPORT"], free_view(rng)
         return spoilt_words(rng, choice_words(rng) + ["IN", "OUT", "REPORT"]), free_view(rng)
+    if rng.random() < 0.25:
+        return note_words(rng) + ["IN", "OUT", "REPORT"], noted_files(rng)
     files = free_view(rng) if rng.random() < 0.4 else run_files(number, rng)
     if rng.random() < 0.45:
         files = with_faults(rng, files, free_view(rng))
     if rng.random() < 0.02:
         files[rng.randrange(3)] = None
-    words = choice_words(rng) + ["IN", "OUT", "REPORT"]
+    words = (note_words if rng.random() < 0.15 else choice_words)(rng) + ["IN", "OUT", "REPORT"]
     return spoilt_words(rng, words) if rng.random() < 0.08 else words, files

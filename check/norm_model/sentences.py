@@ -63,3 +63,23 @@ SENTENCES = {
     "E_CUT": "the segment is too long for --mtu and is cut into segments that fit",
     "E_MTU": "the packet is too long for --mtu and cannot be cut, it is not written",
 }
+
+# What is to be done where there is a note.
+ADVICE = {
+    "lost": 'IN lacks packets: capture again with tcpdump -B 65536, and see how many packets were dropped by kernel',
+    "order": "octets follow their acknowledgment: reordercap IN SORTED, and run norm on SORTED",
+    "half": "IN begins in mid-connection, or is one of several files: mergecap -a -w - PARTS, and run norm on all of them",
+    "one": "TCP of one direction: capture both directions, or correct PREFIX or the name of --inside",
+    "card": "checksums are left to the network card: ethtool -K DEV tx off tso off at the senders, or tcprewrite --fixcsum",
+    "wrong": "most checksums are wrong: capture with gro off and lro off; of an edited capture tcprewrite --fixcsum",
+    "twice": "packets are in IN twice: capture on one interface and not on any",
+    "foreign": "most packets belong to no side: PREFIX is to name the inside; tshark -q -z endpoints,ip -r IN lists addresses",
+    "tagged": "IPv4 behind VLAN tags, PPPoE or MPLS is dropped: tcprewrite --enet-vlan=del takes tags off",
+    "ipv6": "TCP and UDP over IPv6 are dropped and not judged",
+    "tunnels": "tunnels and SCTP are dropped: capture inside of a tunnel",
+    "full": "a table was full: run norm again with a greater value of each option that counts here: --flows, --cells, --quota, --frags, --frag-cells",
+    "cut": "packets are cut short: capture again with tcpdump -s 0",
+}
+
+# Of `card`, where all that was left to the card went outwards.
+OUTWARDS = "outbound checksums are left to the network card: run norm with --offload"

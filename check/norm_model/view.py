@@ -8,11 +8,13 @@ from types import SimpleNamespace
 
 from norm_model.capture import read_head, read_records
 from norm_model.formats import ACK, SYN
+from norm_model.notes import is_bad, notes_of
 from norm_model.report import first_line, read_end, read_entry
 from norm_model.rule_names import RULES
 from norm_model.run import STATUS, read_input
 from norm_model.view_fields import changes_of, flow_of, length_of, made_change
-from norm_model.view_lists import SIDES, TABLES, VERDICTS, chosen_fields, era_fields, record_fields, stop_fields, summary_fields
+from norm_model.view_lists import (SIDES, TABLES, VERDICTS, chosen_fields, era_fields, note_fields, record_fields, stop_fields,
+                                   summary_fields)
 from norm_model.view_texts import PRINTERS, heading
 from norm_model.words import prefix_holds, read_number, read_prefix, take_option
 
@@ -63,12 +65,12 @@ def read_value(name, text):
     return read_era(text) if name == "era" else read_host(text)
 
 
-OPTIONS = SimpleNamespace(names=["json", "table", *CHOICES], marks=["json"], read=read_value)
+OPTIONS = SimpleNamespace(names=["json", "notes", "table", *CHOICES], marks=["json", "notes"], read=read_value)
 
 
 def read_view_words(words):
     """What is asked, or None where the words are refused."""
-    asked, seen = SimpleNamespace(json=False, table=None, **dict.fromkeys(CHOICES)), []
+    asked, seen = SimpleNamespace(json=False, notes=False, table=None, **dict.fromkeys(CHOICES)), []
     while words and words[0].startswith("-"):
         words = take_option(words, OPTIONS, asked, seen)
         if words is None:
@@ -84,7 +86,9 @@ def has_choice(asked):
 
 
 def go_together(asked):
-    """One format, and a table of eras has all of them."""
+    """One format, a table of eras has all of them, and the notes are those on all records."""
+    if asked.notes and (asked.table is not None or has_choice(asked)):
+        return False
     return not (asked.table is not None and asked.json) and not (asked.table == "eras" and has_choice(asked))
 
 
@@ -385,11 +389,11 @@ def view(words, files):
     try:
         if asked is None:
             raise Ended(2, "stop words")
-        add_lines(asked, files, lines)
+        notes = add_lines(asked, files, lines)
     except Ended as ended:
         last = PRINTERS["json" if "--json" in words else "text"](stop_fields(ended.status, ended.reason))
         return ended.status, "".join(lines) + last
-    return 0, "".join(lines)
+    return 10 if asked.notes and is_bad(notes) else 0, "".join(lines)
 
 
 def view_files(words):
@@ -407,6 +411,7 @@ def read_file(name):
 
 
 def add_lines(asked, files, lines):
+    """Adds all that is printed. Returns the notes."""
     form = "table" if asked.table is not None else "json" if asked.json else "text"
     add = lambda fields: lines.append(PRINTERS[form](fields))  # noqa: E731
     run = open_files(files)
@@ -417,12 +422,25 @@ def add_lines(asked, files, lines):
         items += of_record
         if is_chosen(asked, of_record):
             chosen += 1
-            for item in of_record if asked.json or has_choice(asked) or asked.table == "records" else []:
+            for item in of_record if prints_records(asked) else []:
                 add(record_fields(item))
-    if asked.table == "records":
-        return
-    if has_choice(asked):
+    notes = notes_of([item for item in items if item.by == "first"])
+    if has_choice(asked) and asked.table is None:
         add(chosen_fields(chosen))
+    if not has_choice(asked) and asked.table != "records":
+        add_eras(asked, run, items, add, lines)
+        for note in notes if asked.table is None else []:
+            add(note_fields(note))
+    return notes
+
+
+def prints_records(asked):
+    return not asked.notes and (asked.json or has_choice(asked) or asked.table == "records")
+
+
+def add_eras(asked, run, items, add, lines):
+    """Adds the summary, or the names of a table's columns, and the eras; of these nothing where notes alone are asked for."""
+    if asked.notes:
         return
     eras = eras_of(run, items)
     if asked.table == "eras":

@@ -2,11 +2,12 @@
 
 from types import SimpleNamespace
 
+from norm_model.notes import protocols_of, types_of, unfinished
 from norm_model.report import REASONS
+from norm_model.sentences import ADVICE, OUTWARDS
 from norm_model.view_fields import ethertype_of
 from norm_model.view_texts import (ABSENT, address, changes, counts, ended, era_counts, ethertype, explained, field, flags, mark, names, number,
-                                   numbers,
-                                   protocol, rule_counts, time, word)
+                                   number_if_any, numbers, protocol, protocol_counts, rule_counts, time, type_counts, word)
 
 VERDICTS = ("pass", "fix", "hold", "drop")
 
@@ -98,9 +99,24 @@ def summary_fields(items, eras, both):
         field("in", of_first[0], "\nin "), field("out", of_first[1], "\nout "), field("neither", of_first[2], "\n- "),
         field("second_in", of_second[0], "\nsecond in "), field("second_out", of_second[1], "\nsecond out "),
         field("second_neither", of_second[2], "\nsecond - "),
-        field("frames", number(sum(len(item.frames) for item in items)), "\nframes "), field("rules", rule_counts(rules_of(items)), ""),
+        field("frames", number(sum(len(item.frames) for item in items)), "\nframes "),
+        field("unfinished", number_if_any(unfinished(first)), "\nunfinished "), field("types", type_counts(types_of(first)), ""),
+        field("protocols", protocol_counts(protocols_of(first)), ""), field("rules", rule_counts(rules_of(items)), ""),
         field("eras", era_counts({end: ends.count(end) for end in ENDS}, {way: ways.count(way) for way in WAYS}), "\neras "),
     ]
+
+
+# A note
+
+def note_fields(note):
+    """Its counts, and what is to be done."""
+    fields = [field(key, number(value), " %s " % key.replace("_", "-")) for key, value in note.counts.items()]
+    return [field("event", word("note")), field("note", word(note.name), "note "), *fields, field("advice", word(advice_of(note)), ": ")]
+
+
+def advice_of(note):
+    is_outwards = note.name == "card" and note.counts["in"] == note.counts["neither"] == 0
+    return OUTWARDS if is_outwards else ADVICE[note.name]
 
 
 def chosen_fields(records):

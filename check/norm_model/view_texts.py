@@ -63,6 +63,11 @@ def number(value):
     return where_there(lambda it: printed(str(it), it), value)
 
 
+def number_if_any(value):
+    """A number of which a text has nothing where it is 0."""
+    return printed(str(value) if value else None, value)
+
+
 def word(value):
     return where_there(lambda it: printed(it, it), value)
 
@@ -138,6 +143,16 @@ def rule_counts(rules):
     """For each rule, in the order in which they are first named: how often lines of each side name it."""
     lines = ["\nrule %s %d (%s)" % (rule, min(sum(sides.values()), 2**64 - 1), SENTENCES[rule]) for rule, sides in rules.items()]
     return printed("".join(lines), [{"rule": rule, "in": sides["in"], "out": sides["out"], "neither": sides["-"]} for rule, sides in rules.items()])
+
+
+def type_counts(types):
+    """For each type of an Ethernet frame how many lines have it."""
+    return printed("".join("\ntype 0x%04x %d" % pair for pair in types.items()), [{"type": "0x%04x" % kind, "count": count} for kind, count in types.items()])
+
+
+def protocol_counts(protocols):
+    return printed("".join("\nprotocol %d %d" % pair for pair in protocols.items()),
+                   [{"protocol": protocol, "count": count} for protocol, count in protocols.items()])
 
 
 def era_counts(ends, opened):
