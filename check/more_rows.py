@@ -1,7 +1,7 @@
 """Further rows, worked by hand from the rules: scaling, reopening, states, resets, idleness, fragments."""
 
 from norm_model import packets as p
-from norm_model.formats import ICMP, TCP, UDP
+from norm_model.formats import ICMP, TCP, UDP, two
 from norm_model.packets import INSIDE, OUTSIDE, opening, segment
 from worked_rows import OPENED, evasion, piece, row
 
@@ -176,6 +176,33 @@ row("octets are acknowledged, and the FIN is not",
 
 row("a checksum that comes out as 0 is written as 65535", [p.outward(UDP, p.udp(INSIDE, OUTSIDE, 53, 40000, b"/)", check=1))],
     ["1 out fix 1 U_SUM_OUT"], {1: [p.outward(UDP, p.udp(INSIDE, OUTSIDE, 53, 40000, b"/)", check=0xffff))]}, words="--offload")
+
+row("the greatest offset of a fragment, with and without a mark against fragments",
+    [p.inward(UDP, b"a" * 8, df=True, mf=True, offset=65528), p.inward(UDP, b"a" * 8, mf=True, offset=65528)], ["1 in drop 0 F_DF", "2 in drop 0 F_BIG"])
+
+row("a route before the end option", [p.inward(UDP, p.udp(OUTSIDE, INSIDE, 40000, 53, b"hi"), options=bytes.fromhex("83030400"))], ["1 in drop 0 I_ROUTE"])
+
+row("an option of one octet", [segment("> S 999", options=bytes.fromhex("02010101"))], ["1 in drop 0 T_OPT_BAD"])
+
+row("an octet right behind the end option", [segment("> S 999", options=bytes.fromhex("00010000"))],
+    ["1 in fix 1 T_OPT @1 +1"], {1: [segment("> S 999", options=bytes(4))]})
+
+row("an option that comes twice", [segment("> S 999", options=bytes.fromhex("020405b4 020405b4"))],
+    ["1 in fix 1 T_OPT @1 +1"], {1: [segment("> S 999", options=bytes.fromhex("020405b4 01010101"))]})
+
+row("another option of three octets before the scale",
+    opened_with(scaled(1), bytes([254, 3, 9]) + scaled(2) + b"\1") + [TWENTY, segment("< A 5001,1000", window=4), TWENTY],
+    OPENED + ["4 in fix 1 T_WINDOW @1", "5 out pass 1 @1", "6 in fix 1 T_WINDOW @1"],
+    {4: [segment("> PA 1000,5001 abcde")], 6: [segment("> PA 1000,5001 abcdefghijklmnopq")]})
+
+
+def quoting(**fields):
+    """An error about the opened connection, whose quoted header has these fields."""
+    return p.inward(ICMP, p.icmp(3, 0, bytes(4) + p.ipv4(INSIDE, OUTSIDE, TCP, two(80) + two(40000) + bytes(4), **fields)))
+
+
+row("an error that quotes a long header, and one of another version",
+    opening() + [quoting(options=b"\1" * 24), quoting(options=b"\1" * 40, version=3)], OPENED + ["4 in pass 1", "5 in drop 0 M_QUOTE"])
 
 row("an empty record at the end", [segment("> S 999"), b""], ["1 in pass 1 @1 +1", "2 - drop 0 I_SHORT"])
 

@@ -8,7 +8,7 @@ from types import SimpleNamespace
 from norm_model import eras
 from norm_model.capture import ETHERNET
 from norm_model.engine import read_segment
-from norm_model.formats import ACK, FIN, RST, SYN, TCP, four, read_ipv4, read_options, read_tcp, u16, u32
+from norm_model.formats import ACK, FIN, RST, SYN, TCP, four, pseudo_sum, read_ipv4, read_options, read_tcp, sum_right, u16, u32
 from norm_model.report import read_report
 from norm_model.run import read_input
 from norm_model.words import is_trusted
@@ -39,7 +39,7 @@ def run_norm(program, words, given, folder):
     paths = {"IN": os.path.join(folder, "in.pcap"), "OUT": os.path.join(folder, "out.pcap")}
     with open(paths["IN"], "wb") as file:
         file.write(given)
-    done = subprocess.run([program] + [paths.get(word, word) for word in words], stdout=subprocess.PIPE, timeout=120, check=False)
+    done = subprocess.run([program] + [paths.get(word, word) for word in words], stdout=subprocess.PIPE, stderr=subprocess.DEVNULL, timeout=120, check=False)
     if done.returncode != 0:
         return done.returncode, None, []
     report = read_report(done.stdout.decode("ascii", "replace"))
@@ -49,6 +49,8 @@ def run_norm(program, words, given, folder):
         rest = packets_in(file.read())
     if len(rest) != sum(entry.packets for entry in report.entries):
         raise ValueError("OUT has other frames than the report says")
+    if not all(map(is_right, rest)):
+        raise ValueError("OUT has a segment with a wrong checksum, which receivers pass over")
     written = []
     for entry in report.entries:
         written.append(rest[:entry.packets])
@@ -82,6 +84,13 @@ def tcp_of(packet, fragment=False):
         return None
     tcp = read_tcp(packet[ip.header:ip.total])
     return tcp if 20 <= tcp.header <= ip.total - ip.header else None
+
+
+def is_right(packet):
+    """False for a segment whose checksum is wrong."""
+    ip = read_ipv4(packet)
+    message = packet[ip.header:ip.total]
+    return tcp_of(packet) is None or sum_right(message, pseudo_sum(ip.src, ip.dst, TCP, len(message)))
 
 
 def inward_of(settings, packet):

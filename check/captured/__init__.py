@@ -1,0 +1,1 @@
+"""Captures that are made in network namespaces of their own; check/first_captures runs on them."""
