@@ -1,13 +1,9 @@
 -- The visible state of the two sinks of a run (this project's profile).
 use Rattle.std.specs.Prelude.{◌≡◌, ℕ, List, Option}
 use Rattle.edge_io.specs.Faults.{Rose}
+use Rattle.edge_io.specs.Seen.{Seen}
 use Rattle.both_sides.specs.declared.fault.RelayFault.{RelayFault}
 use Rattle.both_sides.specs.declared.fault.RelayFault.TheVariants as faults
-
--- an object's octets, if they are known, and its fault count
-pub record Seen : Type 0 where
-  pub octets : Option (List ℕ)
-  pub faults : ℕ
 
 -- the capture sink and the report sink
 pub record Sinks : Type 0 where

@@ -10,7 +10,8 @@ use Rattle.rule_book.specs.declared.last.StopKind.TheVariants as kinds
 use Rattle.both_sides.specs.declared.fault.RelayFault.TheVariants as faults
 use Rattle.both_sides.specs.Outputs.{Output, to_capture, to_report, capture_hands_on, report_hands_on, cut, capture_part, report_part, Given, heading, CanFail, fault_at}
 use Rattle.both_sides.specs.Puts.{Put, octets_put, put_octets, text_put}
-use Rattle.both_sides.specs.Sinks.{Sinks, Seen}
+use Rattle.edge_io.specs.Seen.{Seen}
+use Rattle.both_sides.specs.Sinks.{Sinks}
 use Rattle.both_sides.proofs.Outputs as puts
 use Rattle.both_sides.proofs.Outputs.{appended, stays}
 use Rattle.pcap_file.proofs.Records.{head_size}

@@ -19,7 +19,7 @@ use Rattle.norm_settings.specs.Settings.{PlainSettings}
 use Rattle.both_sides.specs.Outputs.{to_capture, to_report, capture_hands_on, report_hands_on, heading, capture_part, report_part}
 use Rattle.both_sides.specs.Puts.{Put, count_put, next_put, octets_put, put_octets, puts}
 use Rattle.both_sides.specs.Runs.{packets_of}
-use Rattle.both_sides.specs.Sinks.{Seen}
+use Rattle.edge_io.specs.Seen.{Seen}
 use Rattle.bridge_run.specs.declared.stop.Stop.{Stop}
 use Rattle.bridge_run.specs.declared.stop.Stop.TheVariants as stops
 use Rattle.bridge_run.specs.Moments.{Moment}

@@ -9,7 +9,7 @@ use Rattle.norm_engine.specs.Engine.{Engaged, StandsFor}
 use Rattle.load_make.specs.Generated.{Generated}
 use Rattle.load_make.specs.Loads.{Making}
 use Rattle.both_sides.specs.Frames.{frame_count}
-use Rattle.both_sides.specs.Sinks.{Seen}
+use Rattle.edge_io.specs.Seen.{Seen}
 use Rattle.bridge_run.specs.declared.tally.Tally.{Tally}
 use Rattle.bridge_run.specs.Summary.{load_settings, eras_begun, rules_named, rule_counts, rule_line, summary_lines, IsTraceOf}
 

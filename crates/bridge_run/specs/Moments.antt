@@ -1,6 +1,7 @@
 -- The visible state of the source and the two sinks at a moment of a run (this project's profile).
 use Rattle.std.specs.Prelude.{◌≡◌, ℕ, List, Option}
-use Rattle.both_sides.specs.Sinks.{Seen, Sinks, NoSinkRose, sinks_of}
+use Rattle.edge_io.specs.Seen.{Seen}
+use Rattle.both_sides.specs.Sinks.{Sinks, NoSinkRose, sinks_of}
 
 -- the source, by the octets that it has left, and the sinks
 pub record Moment : Type 0 where

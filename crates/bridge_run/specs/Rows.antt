@@ -21,7 +21,7 @@ use Rattle.norm_settings.specs.Asked.{asked}
 use Rattle.both_sides.specs.Outputs.{heading}
 use Rattle.both_sides.specs.Puts.{Put, count_put, next_put, octets_put, put_octets, puts, text_put}
 use Rattle.both_sides.specs.Runs.{LawfulRun, RunTrace, next_run, packets_of}
-use Rattle.both_sides.specs.Sinks.{Seen}
+use Rattle.edge_io.specs.Seen.{Seen}
 use Rattle.bridge_run.specs.Moments.{Moment}
 use Rattle.bridge_run.specs.Run.{AsksRun, IsFew}
 use Rattle.bridge_run.specs.Stops.{fault_kind, is_faulty, words_line}

@@ -13,7 +13,8 @@ use Rattle.rule_book.specs.declared.last.StopKind.{StopKind}
 use Rattle.rule_book.specs.declared.last.StopKind.TheVariants as kinds
 use Rattle.rule_book.specs.Text.{last_text}
 use Rattle.norm_settings.specs.Settings.{PlainSettings}
-use Rattle.both_sides.specs.Sinks.{Seen, Sinks}
+use Rattle.edge_io.specs.Seen.{Seen}
+use Rattle.both_sides.specs.Sinks.{Sinks}
 use Rattle.bridge_run.specs.declared.stop.Stop.{Stop}
 use Rattle.bridge_run.specs.declared.stop.Stop.TheVariants as stops
 use Rattle.bridge_run.specs.Moments.{Moment}

@@ -18,7 +18,7 @@ use Rattle.norm_engine.specs.Items.{Item, packets}
 use Rattle.norm_engine.specs.Trace.{Lawful}
 use Rattle.load_make.specs.Generated.{Generated}
 use Rattle.both_sides.specs.Frames.{frame_count}
-use Rattle.both_sides.specs.Sinks.{Seen}
+use Rattle.edge_io.specs.Seen.{Seen}
 use Rattle.bridge_run.specs.declared.tally.RuleCount.{RuleCount}
 use Rattle.bridge_run.specs.Stops.{Told, memory_line}
 
