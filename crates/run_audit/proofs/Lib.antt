@@ -5,6 +5,7 @@ pub mod FrameFaults
 pub mod Segments
 pub mod Receivers
 pub mod Frames
+pub mod Outcomes
 pub mod OneAnswer
 pub mod Captures
 pub mod Resets

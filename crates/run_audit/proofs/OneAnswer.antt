@@ -1,5 +1,5 @@
 -- At most one answer holds of words, a capture and a report; octets are the text of one report, or have one first fault.
-use Rattle.std.proofs.Common.{◌≡◌, ◌⊎◌, ℕ, ◌+◌, List, [], ◌∷◌, ◌++◌, length, map, Err, refl, sym, ap, ◌∙◌, subst, arith, inl, inr, ⊎_elim, drop, Option, Some, None, Ok, ap₂, IfSome, IsSome}
+use Rattle.std.proofs.Common.{◌≡◌, ◌⊎◌, ℕ, ◌+◌, List, [], ◌∷◌, ◌++◌, length, map, Err, refl, sym, ap, ◌∙◌, subst, arith, inl, inr, ⊎_elim, Option, Some, None, IfSome, IsSome}
 use Rattle.rule_book.specs.Entries.{PlainEntry}
 use Rattle.rule_book.specs.Reports.{IsVersion, PlainReport, HasFault, IsReport, lines, text_of}
 use Rattle.rule_book.specs.Text.{entry_text, first_line, last_text}
@@ -9,22 +9,19 @@ use Rattle.rule_book.specs.declared.last.Last.{Last}
 use Rattle.rule_book.specs.declared.last.Last.TheVariants.{End, Stop}
 use Rattle.rule_book.proofs.Reports.{Gives, gives_fault, gives_one, gives_report, text_one, lines-text}
 use Rattle.edge_io.specs.Faults.{Rose}
-use Rattle.pcap_file.specs.declared.head.Head.{Head}
 use Rattle.pcap_file.specs.Flaws as found
-use Rattle.pcap_file.specs.Heads.{head_of}
 use Rattle.run_audit.specs.Reported.{IsEnd, IsStop, IsFinished, IsUnfinished, IsTooLong, HasFaultAt, TellsStop, line_of_fault}
 use Rattle.run_audit.specs.declared.answer.Answer.{Answer}
 use Rattle.run_audit.specs.declared.answer.Answer.TheVariants as answers
 use Rattle.run_audit.specs.declared.answer.Flaw.{Flaw}
 use Rattle.run_audit.specs.declared.answer.Flaw.TheVariants as flaws
-use Rattle.run_audit.specs.declared.answer.Reason.{Reason}
 use Rattle.run_audit.specs.Answers.{flaw_of}
-use Rattle.run_audit.specs.Audited.{Seen, OfFinished, Failed, Says, IsExact, IsHeard, MayFail, AnswersAreOne, Answered, ToldUnless, TellsExactly}
-use Rattle.run_audit.specs.Audits.{SoundFrames, FaultyFrame, FlawedFrame, IsSound, IsFaulty, IsFlawed}
+use Rattle.run_audit.specs.Audited.{Seen, Failed, Says, IsExact, IsHeard, MayFail, AnswersAreOne, Answered, ToldUnless, TellsExactly}
+use Rattle.run_audit.specs.Audits.{IsSound, IsFaulty, IsFlawed}
 use Rattle.run_audit.specs.Named.{eras_named}
 use Rattle.run_audit.specs.Told.{Tells}
 use Rattle.run_audit.specs.Words.{asked}
-use Rattle.run_audit.proofs.Captures.{sound_one, sound_no_fault, sound_no_flaw, fault_no_flaw, flaw_one, fault_one}
+use Rattle.run_audit.proofs.Outcomes.{HasOutcome, Outcome, all_sound, first_fault, first_flaw, outcome_one}
 
 -- Octets are the text of one report, or have one first fault.
 
@@ -125,49 +122,11 @@ flaw_back flaws.Long = refl
 flaw_back flaws.Many = refl
 flaw_back flaws.Cut = refl
 
-same_flaw : (f g : Flaw) → flaw_of f ≡ flaw_of g → f ≡ g
-same_flaw f g e = sym (flaw_back f) ∙ ap flaw_from e ∙ flaw_back g
-
--- a capture has one head
-one_head : (c : List ℕ) (h k : Head) → head_of c ≡ Ok h → head_of c ≡ Ok k → h ≡ k
-one_head c h k e f = let g = sym e ∙ f in cc g
-
--- the answers about one capture by the same entries
-module _ (hops : ℕ) (c : List ℕ) (es : List PlainEntry) where
-  sounds : (n m : ℕ) → IsSound hops es c n → IsSound hops es c m → n ≡ m
-  sounds n m a b =
-      let P : Head → Type 0 = λ h. SoundFrames hops h es (drop 24 c) n in
-      sound_one hops b.head es (drop 24 c) n m (subst P (one_head c a.head b.head a.accepted b.accepted) a.behind) b.behind
-
-  sound_fault : (n k : ℕ) (r : Reason) → IsSound hops es c n → IsFaulty hops es c k r → ⊥
-  sound_fault n k r a b =
-      let P : Head → Type 0 = λ h. SoundFrames hops h es (drop 24 c) n in
-      sound_no_fault hops b.head es (drop 24 c) n k r (subst P (one_head c a.head b.head a.accepted b.accepted) a.behind) b.behind
-
-  sound_flaw : (n : ℕ) (f : found.Flaw) (o : ℕ) → IsSound hops es c n → IsFlawed hops es c f o → ⊥
-  sound_flaw n f o a (inl b) = let e = a.accepted in let g = b.0 in absurd (cc (e, g))
-  sound_flaw n f o a (inr b) =
-      let P : Head → Type 0 = λ h. SoundFrames hops h es (drop 24 c) n in
-      sound_no_flaw hops b.head es (drop 24 c) n f o (subst P (one_head c a.head b.head a.accepted b.accepted) a.behind) b.behind
-
-  faults : (n m : ℕ) (r s : Reason) → IsFaulty hops es c n r → IsFaulty hops es c m s → (n ≡ m) × (r ≡ s)
-  faults n m r s a b =
-      let P : Head → Type 0 = λ h. FaultyFrame hops h es (drop 24 c) n r in
-      fault_one hops b.head es (drop 24 c) n m r s (subst P (one_head c a.head b.head a.accepted b.accepted) a.behind) b.behind
-
-  fault_flaw : (n : ℕ) (r : Reason) (f : found.Flaw) (o : ℕ) → IsFaulty hops es c n r → IsFlawed hops es c f o → ⊥
-  fault_flaw n r f o a (inl b) = let e = a.accepted in let g = b.0 in absurd (cc (e, g))
-  fault_flaw n r f o a (inr b) =
-      let P : Head → Type 0 = λ h. FaultyFrame hops h es (drop 24 c) n r in
-      fault_no_flaw hops b.head es (drop 24 c) n r f o (subst P (one_head c a.head b.head a.accepted b.accepted) a.behind) b.behind
-
-  all_flaws : (f g : found.Flaw) (o p : ℕ) → IsFlawed hops es c f o → IsFlawed hops es c g p → (f ≡ g) × (o ≡ p)
-  all_flaws f g o p (inl a) (inl b) = ((let e = sym a.0 ∙ b.0 in cc e), a.1 ∙ sym b.1)
-  all_flaws f g o p (inl a) (inr b) = let e = a.0 in let h = b.accepted in absurd (cc (e, h))
-  all_flaws f g o p (inr a) (inl b) = let e = b.0 in let h = a.accepted in absurd (cc (e, h))
-  all_flaws f g o p (inr a) (inr b) =
-      let P : Head → Type 0 = λ h. FlawedFrame hops h es (drop 24 c) f o in
-      flaw_one hops b.head es (drop 24 c) f g o p (subst P (one_head c a.head b.head a.accepted b.accepted) a.behind) b.behind
+-- the answer to an outcome, after the report of these entries
+answer_to : List PlainEntry → Outcome → Answer
+answer_to entries (all_sound frames) = answers.Yes (length (eras_named entries)) frames
+answer_to entries (first_fault number reason) = answers.No number reason
+answer_to entries (first_flaw what offset) = answers.Flawed (flaw_from what) offset
 
 -- the report with these octets is that of a finished run, and this is a fact of its entries
 record Read (r : List ℕ) (P : List PlainEntry → Type 0) : Type 0 where
@@ -175,116 +134,65 @@ record Read (r : List ℕ) (P : List PlainEntry → Type 0) : Type 0 where
   finished : IsFinished r entries
   fact : P entries
 
--- the meaning of an answer for words and known octets
-Told : (words : List (List ℕ)) → (c r : List ℕ) → Answer → Type 0
-Told words c r (answers.Yes eras frames) = (hops : ℕ) × (asked words ≡ Some hops) × Read r (λ es. (eras ≡ length (eras_named es)) × IsSound hops es c frames)
-Told words c r (answers.No number reason) = (hops : ℕ) × (asked words ≡ Some hops) × Read r (λ es. IsFaulty hops es c number reason)
-Told words c r answers.Words = asked words ≡ None
-Told words c r (answers.Flawed flaw offset) = (hops : ℕ) × (asked words ≡ Some hops) × Read r (λ es. IsFlawed hops es c (flaw_of flaw) offset)
-Told words c r answers.Unread = ⊥
-Told words c r answers.Memory = ⊥
-Told words c r (answers.Report line) = (hops : ℕ) × (asked words ≡ Some hops) × IsUnfinished r line
+-- the answer is that to an outcome
+record Answers (hops : ℕ) (entries : List PlainEntry) (capture : List ℕ) (answer : Answer) : Type 0 where
+  outcome : Outcome
+  has : HasOutcome hops entries capture outcome
+  is : answer ≡ answer_to entries outcome
+
+-- what an answer about the frames says of known octets
+abbrev Told : (words : List (List ℕ)) → (c r : List ℕ) → Answer → Type 0
+Told words c r a = (hops : ℕ) × (asked words ≡ Some hops) × Read r (λ es. Answers hops es c a)
 
 -- a fact of octets that are known
 at : (P : List ℕ → Type 0) (left : Option (List ℕ)) (x : List ℕ) → left ≡ Some x → IfSome left P → P x
 at P left x e h = let Q : Option (List ℕ) → Type 0 = λ o. IfSome o P in subst Q e h
 
-read_of : (capture report : Option (List ℕ)) (c r : List ℕ) (P : List PlainEntry → List ℕ → Type 0) → capture ≡ Some c → report ≡ Some r
-    → OfFinished report (λ es. IfSome capture (P es)) → Read r (λ es. P es c)
-read_of capture report c r P e f o = record {
-  entries = o.entries;
-  finished = at (λ x. IsFinished x o.entries) report r f o.finished;
-  fact = at (P o.entries) capture c e o.fact;
-}
+-- the answer is one about the frames
+abbrev IsOfFrames : Answer → Type 0
+IsOfFrames (answers.Yes eras frames) = Unit {0}
+IsOfFrames (answers.No number reason) = Unit {0}
+IsOfFrames (answers.Flawed what offset) = Unit {0}
+IsOfFrames _ = ⊥
 
-told_of : (words : List (List ℕ)) (capture report : Seen) (c r : List ℕ) (a : Answer) → capture.left ≡ Some c → report.left ≡ Some r → IsExact a → Says words capture report a → Told words c r a
-unfolding Told
-told_of words capture report c r (answers.Yes eras frames) e f exact s =
-    let y = s.2 in (
-      s.0,
-      s.1,
-      record {
-        entries = y.entries;
-        finished = at (λ x. IsFinished x y.entries) report.left r f y.finished;
-        fact = (y.eras_are, at (λ x. IsSound s.0 y.entries x frames) capture.left c e y.sound);
-      },
-    )
-told_of words capture report c r (answers.No number reason) e f exact s = (s.0, s.1, read_of capture.left report.left c r (λ es x. IsFaulty s.0 es x number reason) e f s.2)
-told_of words capture report c r answers.Words e f exact s = s
-told_of words capture report c r (answers.Flawed flaw offset) e f exact s = (s.0, s.1, read_of capture.left report.left c r (λ es x. IsFlawed s.0 es x (flaw_of flaw) offset) e f s.2)
-told_of words capture report c r answers.Unread e f exact s = absurd exact
-told_of words capture report c r answers.Memory e f exact s = absurd exact
-told_of words capture report c r (answers.Report line) e f exact s = (s.0, s.1, at (λ x. IsUnfinished x line) report.left r f s.2)
+told_of : (words : List (List ℕ)) (capture report : Seen) (c r : List ℕ) (a : Answer) → capture.left ≡ Some c → report.left ≡ Some r → IsOfFrames a
+    → Says words capture report a → Told words c r a
+unfolding answer_to
+told_of words capture report c r (answers.Yes eras frames) e f is s =
+    let fact : Answers s.0 s.2.entries c (answers.Yes eras frames) =
+    record {
+      outcome = all_sound frames;
+      has = at (λ x. IsSound s.0 s.2.entries x frames) capture.left c e s.2.sound;
+      is = ap (λ n. answers.Yes n frames) s.2.eras_are;
+    } in
+    (s.0, s.1, record { entries = s.2.entries; finished = at (λ x. IsFinished x s.2.entries) report.left r f s.2.finished; fact = fact })
+told_of words capture report c r (answers.No number reason) e f is s =
+    let fact : Answers s.0 s.2.entries c (answers.No number reason) =
+    record { outcome = first_fault number reason; has = at (λ x. IsFaulty s.0 s.2.entries x number reason) capture.left c e s.2.fact; is = refl } in
+    (s.0, s.1, record { entries = s.2.entries; finished = at (λ x. IsFinished x s.2.entries) report.left r f s.2.finished; fact = fact })
+told_of words capture report c r (answers.Flawed what offset) e f is s =
+    let fact : Answers s.0 s.2.entries c (answers.Flawed what offset) =
+    record {
+      outcome = first_flaw (flaw_of what) offset;
+      has = at (λ x. IsFlawed s.0 s.2.entries x (flaw_of what) offset) capture.left c e s.2.fact;
+      is = ap (λ g. answers.Flawed g offset) (sym (flaw_back what));
+    } in
+    (s.0, s.1, record { entries = s.2.entries; finished = at (λ x. IsFinished x s.2.entries) report.left r f s.2.finished; fact = fact })
+told_of words capture report c r _ e f is s = absurd is
 
 -- the words ask for at most one number
-one_number : (words : List (List ℕ)) (h k : ℕ) → asked words ≡ Some h → asked words ≡ Some k → h ≡ k
-one_number words h k e f = let g = sym e ∙ f in cc g
-
 refused : (words : List (List ℕ)) (h : ℕ) → asked words ≡ None → asked words ≡ Some h → ⊥
 refused words h e f = absurd (cc (e, f))
 
--- a fact of a finished report holds of each number that the words ask for and of each list of its entries
-moved : (words : List (List ℕ)) (r : List ℕ) (h k : ℕ) (P : ℕ → List PlainEntry → Type 0) → asked words ≡ Some h → asked words ≡ Some k → Read r (P h) → (es : List PlainEntry) → IsFinished r es → P k es
-moved words r h k P e f a es fin =
-    let Q : ℕ → Type 0 = λ n. P n a.entries in
-    let R : List PlainEntry → Type 0 = P k in
-    subst R (finished_one r a.entries es a.finished fin) (subst Q (one_number words h k e f) a.fact)
-
-of_yes : (hops : ℕ) (r c : List ℕ) (eras frames : ℕ) → Read r (λ es. (eras ≡ length (eras_named es)) × IsSound hops es c frames) → Read r (λ es. IsSound hops es c frames)
-of_yes hops r c eras frames y = record { entries = y.entries; finished = y.finished; fact = y.fact.1 }
-
 told_one : (words : List (List ℕ)) (c r : List ℕ) (a b : Answer) → Told words c r a → Told words c r b → a ≡ b
-unfolding Told
-told_one words c r answers.Unread b s t = absurd s
-told_one words c r answers.Memory b s t = absurd s
-told_one words c r answers.Words answers.Words s t = refl
-told_one words c r answers.Words answers.Unread s t = absurd t
-told_one words c r answers.Words answers.Memory s t = absurd t
-told_one words c r answers.Words (answers.Yes eras frames) s t = absurd (refused words t.0 s t.1)
-told_one words c r answers.Words (answers.No number reason) s t = absurd (refused words t.0 s t.1)
-told_one words c r answers.Words (answers.Flawed flaw offset) s t = absurd (refused words t.0 s t.1)
-told_one words c r answers.Words (answers.Report line) s t = absurd (refused words t.0 s t.1)
-told_one words c r (answers.Yes eras frames) answers.Unread s t = absurd t
-told_one words c r (answers.Yes eras frames) answers.Memory s t = absurd t
-told_one words c r (answers.Yes eras frames) answers.Words s t = absurd (refused words s.0 t s.1)
-told_one words c r (answers.Yes eras frames) (answers.Yes other more) s t =
-    let here = moved words r s.0 t.0 (λ h es. IsSound h es c frames) s.1 t.1 (of_yes s.0 r c eras frames s.2) t.2.entries t.2.finished in
-    let same : eras ≡ other = s.2.fact.0 ∙ ap (λ (es : List PlainEntry). length (eras_named es)) (finished_one r s.2.entries t.2.entries s.2.finished t.2.finished) ∙ sym t.2.fact.0 in
-    ap₂ answers.Yes same (sounds t.0 c t.2.entries frames more here t.2.fact.1)
-told_one words c r (answers.Yes eras frames) (answers.No number reason) s t =
-    absurd (sound_fault t.0 c t.2.entries frames number reason (moved words r s.0 t.0 (λ h es. IsSound h es c frames) s.1 t.1 (of_yes s.0 r c eras frames s.2) t.2.entries t.2.finished) t.2.fact)
-told_one words c r (answers.Yes eras frames) (answers.Flawed flaw offset) s t =
-    absurd (sound_flaw t.0 c t.2.entries frames (flaw_of flaw) offset (moved words r s.0 t.0 (λ h es. IsSound h es c frames) s.1 t.1 (of_yes s.0 r c eras frames s.2) t.2.entries t.2.finished) t.2.fact)
-told_one words c r (answers.Yes eras frames) (answers.Report line) s t = absurd (finished_no_other r s.2.entries line s.2.finished t.2)
-told_one words c r (answers.No number reason) answers.Unread s t = absurd t
-told_one words c r (answers.No number reason) answers.Memory s t = absurd t
-told_one words c r (answers.No number reason) answers.Words s t = absurd (refused words s.0 t s.1)
-told_one words c r (answers.No number reason) (answers.Yes eras frames) s t =
-    absurd (sound_fault s.0 c s.2.entries frames number reason (moved words r t.0 s.0 (λ h es. IsSound h es c frames) t.1 s.1 (of_yes t.0 r c eras frames t.2) s.2.entries s.2.finished) s.2.fact)
-told_one words c r (answers.No number reason) (answers.No other cause) s t =
-    let same = faults t.0 c t.2.entries number other reason cause (moved words r s.0 t.0 (λ h es. IsFaulty h es c number reason) s.1 t.1 s.2 t.2.entries t.2.finished) t.2.fact in
-    ap₂ answers.No same.0 same.1
-told_one words c r (answers.No number reason) (answers.Flawed flaw offset) s t =
-    absurd (fault_flaw t.0 c t.2.entries number reason (flaw_of flaw) offset (moved words r s.0 t.0 (λ h es. IsFaulty h es c number reason) s.1 t.1 s.2 t.2.entries t.2.finished) t.2.fact)
-told_one words c r (answers.No number reason) (answers.Report line) s t = absurd (finished_no_other r s.2.entries line s.2.finished t.2)
-told_one words c r (answers.Flawed flaw offset) answers.Unread s t = absurd t
-told_one words c r (answers.Flawed flaw offset) answers.Memory s t = absurd t
-told_one words c r (answers.Flawed flaw offset) answers.Words s t = absurd (refused words s.0 t s.1)
-told_one words c r (answers.Flawed flaw offset) (answers.Yes eras frames) s t =
-    absurd (sound_flaw s.0 c s.2.entries frames (flaw_of flaw) offset (moved words r t.0 s.0 (λ h es. IsSound h es c frames) t.1 s.1 (of_yes t.0 r c eras frames t.2) s.2.entries s.2.finished) s.2.fact)
-told_one words c r (answers.Flawed flaw offset) (answers.No number reason) s t =
-    absurd (fault_flaw s.0 c s.2.entries number reason (flaw_of flaw) offset (moved words r t.0 s.0 (λ h es. IsFaulty h es c number reason) t.1 s.1 t.2 s.2.entries s.2.finished) s.2.fact)
-told_one words c r (answers.Flawed flaw offset) (answers.Flawed other place) s t =
-    let same = all_flaws t.0 c t.2.entries (flaw_of flaw) (flaw_of other) offset place (moved words r s.0 t.0 (λ h es. IsFlawed h es c (flaw_of flaw) offset) s.1 t.1 s.2 t.2.entries t.2.finished) t.2.fact in
-    ap₂ answers.Flawed (same_flaw flaw other same.0) same.1
-told_one words c r (answers.Flawed flaw offset) (answers.Report line) s t = absurd (finished_no_other r s.2.entries line s.2.finished t.2)
-told_one words c r (answers.Report line) answers.Unread s t = absurd t
-told_one words c r (answers.Report line) answers.Memory s t = absurd t
-told_one words c r (answers.Report line) answers.Words s t = absurd (refused words s.0 t s.1)
-told_one words c r (answers.Report line) (answers.Yes eras frames) s t = absurd (finished_no_other r t.2.entries line t.2.finished s.2)
-told_one words c r (answers.Report line) (answers.No number reason) s t = absurd (finished_no_other r t.2.entries line t.2.finished s.2)
-told_one words c r (answers.Report line) (answers.Flawed flaw offset) s t = absurd (finished_no_other r t.2.entries line t.2.finished s.2)
-told_one words c r (answers.Report line) (answers.Report other) s t = ap answers.Report (unfinished_one r line other s.2 t.2)
+told_one words c r a b s t =
+    let number : s.0 ≡ t.0 = (let e = sym s.1 ∙ t.1 in cc e) in
+    let named = finished_one r s.2.entries t.2.entries s.2.finished t.2.finished in
+    let P : ℕ → Type 0 = λ n. Answers n s.2.entries c a in
+    let Q : List PlainEntry → Type 0 = λ es. Answers t.0 es c a in
+    let mine = subst Q named (subst P number s.2.fact) in
+    let yours = t.2.fact in
+    mine.is ∙ ap (answer_to t.2.entries) (outcome_one t.0 t.2.entries c mine.outcome yours.outcome mine.has yours.has) ∙ sym yours.is
 
 some_of : (o : Option (List ℕ)) → IsSome o → (x : List ℕ) × (o ≡ Some x)
 some_of None h = absurd (cc h)
@@ -316,23 +224,40 @@ report_alone words capture report r line answers.Memory f exact s t = absurd exa
 report_alone words capture report r line (answers.Report other) f exact s t =
     ap answers.Report (unfinished_one r line other (at (λ x. IsUnfinished x line) report.left r f s.2) (at (λ x. IsUnfinished x other) report.left r f t.2))
 
-both_heard : (words : List (List ℕ)) (capture report : Seen) (a b : Answer) → IsSome report.left × IsSome capture.left → IsExact a → IsExact b
-    → Says words capture report a → Says words capture report b → a ≡ b
-both_heard words capture report a b heard a_exact b_exact s t =
-    let r = some_of report.left heard.0 in
-    let c = some_of capture.left heard.1 in
-    told_one words c.0 r.0 a b (told_of words capture report c.0 r.0 a c.1 r.1 a_exact s) (told_of words capture report c.0 r.0 b c.1 r.1 b_exact t)
+-- no other answer holds beside one about the frames
+frames_alone : (words : List (List ℕ)) (capture report : Seen) (a b : Answer) → IsSome report.left × IsSome capture.left → IsOfFrames a → IsExact a
+    → IsExact b → Says words capture report a → Says words capture report b → a ≡ b
+frames_alone words capture report a b heard of_frames exact other s t = by b other t
+  where
+    r : (x : List ℕ) × (report.left ≡ Some x)
+    r = some_of report.left heard.0
+
+    c : (x : List ℕ) × (capture.left ≡ Some x)
+    c = some_of capture.left heard.1
+
+    both : (b : Answer) → IsOfFrames b → Says words capture report b → a ≡ b
+    both b is t = told_one words c.0 r.0 a b (told_of words capture report c.0 r.0 a c.1 r.1 of_frames s) (told_of words capture report c.0 r.0 b c.1 r.1 is t)
+
+    by : (b : Answer) → IsExact b → Says words capture report b → a ≡ b
+    by (answers.Yes eras frames) exact t = both (answers.Yes eras frames) tt t
+    by (answers.No number reason) exact t = both (answers.No number reason) tt t
+    by (answers.Flawed what offset) exact t = both (answers.Flawed what offset) tt t
+    by answers.Words other t = sym (words_alone words capture report a exact t s)
+    by (answers.Report line) other t = sym (report_alone words capture report r.0 line a r.1 exact t s)
+    by _ other t = absurd other
 
 pub answers_are_one : AnswersAreOne
-answers_are_one words capture report (answers.Yes eras frames) b heard exact s t = both_heard words capture report (answers.Yes eras frames) b heard tt exact s t
-answers_are_one words capture report (answers.No number reason) b heard exact s t = both_heard words capture report (answers.No number reason) b heard tt exact s t
 answers_are_one words capture report answers.Words b heard exact s t = words_alone words capture report b exact s t
-answers_are_one words capture report (answers.Flawed flaw offset) b heard exact s t = both_heard words capture report (answers.Flawed flaw offset) b heard tt exact s t
 answers_are_one words capture report answers.Unread b heard exact s t = absurd heard
 answers_are_one words capture report answers.Memory b heard exact s t = absurd heard
 answers_are_one words capture report (answers.Report line) b heard exact s t =
-    let r = some_of report.left heard in
-    report_alone words capture report r.0 line b r.1 exact s t
+    let r = some_of report.left heard in report_alone words capture report r.0 line b r.1 exact s t
+answers_are_one words capture report (answers.Yes eras frames) b heard exact s t =
+    frames_alone words capture report (answers.Yes eras frames) b heard tt tt exact s t
+answers_are_one words capture report (answers.No number reason) b heard exact s t =
+    frames_alone words capture report (answers.No number reason) b heard tt tt exact s t
+answers_are_one words capture report (answers.Flawed what offset) b heard exact s t =
+    frames_alone words capture report (answers.Flawed what offset) b heard tt tt exact s t
 
 -- a source failed although an answer holds
 either_failed : (capture report : Seen) → Failed capture report → Rose report.before report.now ⊎ Rose capture.before capture.now

@@ -1,5 +1,5 @@
 -- What an audit finds in the octets of a capture (this project's profile). Records are a list, newest first.
-use Rattle.std.specs.Prelude.{◌≡◌, ◌⊎◌, ℕ, ◌^◌, ◌<◌, ◌≤◌, List, [], length, drop, map, Option, option_map, Ok, Err, IfSome, IsSome, nat_eq}
+use Rattle.std.specs.Prelude.{◌≡◌, ◌⊎◌, ℕ, ◌≤◌, List, [], length, drop, map, Option, option_map, Ok, Err, IfSome, IsSome, nat_eq}
 use Rattle.edge_io.specs.Faults.{Rose}
 use Rattle.pcap_file.specs.declared.head.Head.{Head}
 use Rattle.pcap_file.specs.Flaws as found

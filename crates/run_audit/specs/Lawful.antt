@@ -17,7 +17,7 @@ use Rattle.rule_book.specs.Text.{report_text}
 use Rattle.norm_settings.specs.Settings.{PlainSettings}
 use Rattle.era_agreement.specs.Sent.{written_in}
 use Rattle.norm_engine.specs.Agreement.{sent_in}
-use Rattle.norm_engine.specs.Items.{Item, entries, packets}
+use Rattle.norm_engine.specs.Items.{Item, entries}
 use Rattle.norm_engine.specs.Laws.{IsSound}
 use Rattle.run_audit.specs.Audited.{IsYes}
 use Rattle.run_audit.specs.Audits.{frames_of}
