@@ -22,7 +22,7 @@ pub mod change;
 pub mod field;
 pub mod flow;
 pub mod laws;
-pub mod parts;
+mod parts;
 mod payload;
 mod reading;
 
