@@ -1,2 +1,3 @@
 mod Unruled
 mod Numbers
+mod Tables

@@ -1,17 +1,19 @@
 -- All that is counted for the notes of a run, over the whole list of its lines (this project's profile). Lists of lines have the newest at the head.
 use Rattle.std.specs.Prelude.{ℕ, List, [], ◌∷◌, Option, Some, None}
+use Rattle.std.specs.Option.{is_some}
 use Rattle.rule_book.specs.Entries.{PlainEntry, plain}
 use Rattle.frame_view.specs.Flows.{ethertype_in}
+use Rattle.frame_view.specs.Parts.{packet_of}
 use Rattle.frame_view.specs.declared.flow.Flow.{Flow}
 use Rattle.run_notes.specs.Fragments as fragments
 use Rattle.run_notes.specs.Fragments.{PlainFragments, counted_if, protocol_of, type_of}
 use Rattle.run_notes.specs.Kinds.{no_kinds, with_kinds}
-use Rattle.run_notes.specs.Lines.{PlainLine, flow_at, packet_at}
+use Rattle.run_notes.specs.Lines.{PlainLine, flow_at, plus_if}
 use Rattle.run_notes.specs.Streams as streams
 use Rattle.run_notes.specs.Streams.{PlainFlows, Table, with_ends}
 use Rattle.run_notes.specs.Sums as sums
 use Rattle.run_notes.specs.Tuples as tuples
-use Rattle.run_notes.specs.Tuples.{PlainTuples, with_count}
+use Rattle.run_notes.specs.Tuples.{PlainTuples}
 use Rattle.run_notes.specs.Twins as twins
 use Rattle.run_notes.specs.Twins.{PlainTwins}
 use Rattle.run_notes.specs.declared.fragments.Fragments.{Fragments}
@@ -108,12 +110,12 @@ with_entry line counts =
       types = counted_if (type_of line.entry.rules (ethertype_in line.link line.octets)) counts.types;
       protocols = counted_if (protocol_of line.entry.rules (flow_at line)) counts.protocols;
       flows = record counts.flows { table = with_ends line.entry.ended counts.flows.table };
-      tuples = with_count line.entry counts.tuples;
+      tuples = record counts.tuples { begun = plus_if (is_some line.entry.begun) counts.tuples.begun };
     }
 
 -- one more line
 abbrev pub with_line : PlainLine → Counts → Counts
-with_line line counts = with_packet_if line.entry (flow_at line) (packet_at line) (with_entry line counts)
+with_line line counts = with_packet_if line.entry (flow_at line) (packet_of line.link line.octets) (with_entry line counts)
 
 -- all that is counted of lines
 abbrev pub counts_of : List PlainLine → Counts

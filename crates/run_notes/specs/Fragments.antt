@@ -46,14 +46,14 @@ with_complete key fragments =
     then fragments
     else record { table = insert_entry is_datagram fragments.table key 0; all = fragments.all - held_of key fragments.table })
 
--- a fragment
-abbrev pub with_fragment : List Rule → DatagramKey → PlainFragments → PlainFragments
-with_fragment rules key fragments =
-    (if is_completing rules then with_complete key fragments else if names rules FHeld then with_held key fragments else fragments)
-
--- a packet
+-- a packet, where it is a fragment
 abbrev pub with_packet : List Rule → Flow → PlainFragments → PlainFragments
-with_packet rules flow fragments = if is_fragment flow then with_fragment rules (datagram_of flow) fragments else fragments
+with_packet rules flow fragments =
+    if not (is_fragment flow)
+    then fragments
+    else if is_completing rules
+    then with_complete (datagram_of flow) fragments
+    else if names rules FHeld then with_held (datagram_of flow) fragments else fragments
 
 -- counts by number, in the order of first naming; one more of a number
 abbrev pub counted : (number : ℕ) → List (ℕ × ℕ) → List (ℕ × ℕ)

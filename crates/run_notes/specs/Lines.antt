@@ -4,11 +4,11 @@ use Rattle.std.specs.List.{list_any}
 use Rattle.rule_book.specs.Entries.{PlainEntry}
 use Rattle.rule_book.specs.Rules.{rule_number}
 use Rattle.rule_book.specs.declared.entry.Verdict.{Verdict}
-use Rattle.rule_book.specs.declared.entry.Verdict.TheVariants.{Pass, Fix, Hold, Drop}
+use Rattle.rule_book.specs.declared.entry.Verdict.TheVariants.{Drop}
 use Rattle.rule_book.specs.declared.rule.Rule.{Rule}
 use Rattle.frame_view.specs.Flows.{flow_in}
-use Rattle.frame_view.specs.Parts.{packet_of}
 use Rattle.frame_view.specs.declared.flow.Flow.{Flow}
+use Rattle.frame_view.specs.declared.flow.TcpMarks.{TcpMarks}
 use Rattle.wire_base.specs.declared.address.Link.{Link}
 use Rattle.wire_base.specs.declared.address.Side.{Side}
 use Rattle.wire_base.specs.declared.address.Side.TheVariants.{Inward, Outward}
@@ -20,10 +20,7 @@ pub record PlainLine : Type 0 where
   pub octets : List ℕ
   pub entry : PlainEntry
 
--- the IPv4 packet of the record, and what its headers say, where its header can be read
-abbrev pub packet_at : PlainLine → Option (List ℕ)
-packet_at line = packet_of line.link line.octets
-
+-- what the headers of the record's packet say, where its IPv4 header can be read
 abbrev pub flow_at : PlainLine → Option Flow
 flow_at line = flow_in line.link line.octets
 
@@ -33,14 +30,16 @@ names rules rule = list_any (λ other. rule_number other == rule_number rule) ru
 
 -- the record is not written
 abbrev pub is_drop : Verdict → Bool
-is_drop Pass = false
-is_drop Fix = false
-is_drop Hold = false
 is_drop Drop = true
+is_drop _ = false
 
 -- the packet is a fragment: it has MF or an offset above 0
 abbrev pub is_fragment : Flow → Bool
 is_fragment flow = flow.more || nat_lt 0 flow.offset
+
+-- the marks of a segment that is no fragment
+abbrev pub marks_of : Flow → Option TcpMarks
+marks_of flow = if is_fragment flow then None else flow.tcp
 
 -- the first octet of the destination is from 224 to 239 (RFC 1112 section 4)
 abbrev pub is_multicast : Flow → Bool

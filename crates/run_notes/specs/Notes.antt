@@ -2,9 +2,10 @@
 use Rattle.std.specs.Prelude.{ℕ, ◌+◌, ◌-◌, ◌*◌, ◌&&◌, ◌||◌, not, nat_lt, Bool, true, false, List, [], ◌∷◌, ◌++◌, min, max, if◌then◌else◌}
 use Rattle.std.specs.List.{list_any}
 use Rattle.run_notes.specs.Counts.{Counts}
+use Rattle.run_notes.specs.Kinds.{is_any}
 use Rattle.run_notes.specs.Lines.{plus}
 use Rattle.run_notes.specs.declared.by_side.BySide.{BySide}
-use Rattle.run_notes.specs.declared.list.Full.{Full}
+use Rattle.run_notes.specs.declared.kinds.Full.{Full}
 use Rattle.run_notes.specs.declared.list.Note.{Note}
 use Rattle.run_notes.specs.declared.list.Note.TheVariants as notes
 
@@ -26,8 +27,8 @@ lost_out c = lost_of c.flows.missing.outward c.flows.loose.outward c.flows.loose
 abbrev pub has_order : Counts → Bool
 has_order c = reaches c.flows.gaps 3
 
-abbrev pub has_lost : Counts → Bool
-has_lost c = (nat_lt 0 (lost_in c) || nat_lt 0 (lost_out c)) && not (has_order c)
+abbrev pub has_lost : (inward outward : ℕ) → (order : Bool) → Bool
+has_lost inward outward order = (nat_lt 0 inward || nat_lt 0 outward) && not order
 
 -- of segments with an acknowledgment, 8 of one side, and 256 for each of the other side or of neither: a receiver may acknowledge once for 45 segments
 abbrev pub is_one_sided : (most few neither : ℕ) → Bool
@@ -53,28 +54,17 @@ has_card c = side_share c.sums.to_card 2 64 c
 abbrev pub has_wrong : Counts → Bool
 has_wrong c = side_share c.sums.wrong 4 2 c
 
-abbrev pub has_twice : Counts → Bool
-has_twice c = is_share c.twins.twice 4 16 c.twins.candidates
-
 -- more than half of the packets
 abbrev pub has_foreign : Counts → Bool
 has_foreign c = nat_lt c.sums.packets (2 * c.kinds.foreign)
 
--- the records that a greater table of connections would have judged otherwise
-abbrev pub full_flows : Counts → ℕ
-full_flows c = plus c.kinds.flows c.tuples.resumed
-
+-- the records that greater tables would have judged otherwise: of connections also those that go on after an eviction
 abbrev pub full_of : Counts → Full
-full_of c =
-    record { flows = full_flows c; cells = c.kinds.cells; quota = c.kinds.quota; frags = c.kinds.frags; frag_cells = c.kinds.frag_cells }
-
-abbrev pub has_full : Counts → Bool
-has_full c =
-    nat_lt 0 (full_flows c) || nat_lt 0 c.kinds.cells || nat_lt 0 c.kinds.quota || nat_lt 0 c.kinds.frags || nat_lt 0 c.kinds.frag_cells
+full_of c = record c.kinds.full { flows = plus c.kinds.full.flows c.tuples.resumed }
 
 -- another note says why connections have no beginning
 abbrev pub is_explained : Counts → Bool
-is_explained c = has_order c || has_card c || has_wrong c || has_one c || has_full c || has_foreign c
+is_explained c = has_order c || has_card c || has_wrong c || has_one c || is_any (full_of c) || has_foreign c
 
 -- connections that the capture does not begin: one in eight, or octets of one
 abbrev pub has_half : Counts → Bool
@@ -87,7 +77,7 @@ note_if test note = if test then note ∷ [] else []
 -- the notes on the capture, in their order
 abbrev pub stream_notes : Counts → List Note
 stream_notes c =
-    note_if (has_lost c) (notes.Lost (lost_in c) (lost_out c))
+    note_if (has_lost (lost_in c) (lost_out c) (has_order c)) (notes.Lost (lost_in c) (lost_out c))
     ++ note_if (has_order c) (notes.Order c.flows.gaps)
     ++ note_if (has_half c) (notes.Half c.tuples.middle c.tuples.probed)
     ++ note_if (has_one c) (notes.One c.kinds.answering)
@@ -96,24 +86,21 @@ abbrev pub packet_notes : Counts → List Note
 packet_notes c =
     note_if (has_card c) (notes.Card c.sums.to_card)
     ++ note_if (has_wrong c) (notes.Wrong c.sums.wrong)
-    ++ note_if (has_twice c) (notes.Twice c.twins.twice)
+    ++ note_if (is_share c.twins.twice 4 16 c.twins.candidates) (notes.Twice c.twins.twice)
     ++ note_if (has_foreign c) (notes.Foreign c.kinds.foreign)
 
--- the notes on what is not judged
+-- the notes on what is not judged, on tables that were full, and on records that are cut
 abbrev pub kind_notes : Counts → List Note
 kind_notes c =
     note_if (nat_lt 0 c.kinds.tagged) (notes.Tagged c.kinds.tagged)
     ++ note_if (nat_lt 0 c.kinds.ipv6) (notes.Ipv6 c.kinds.ipv6)
     ++ note_if (nat_lt 0 c.kinds.tunnels) (notes.Tunnels c.kinds.tunnels)
-
-abbrev pub room_notes : Counts → List Note
-room_notes c =
-    note_if (has_full c) (notes.Full (full_of c))
+    ++ note_if (is_any (full_of c)) (notes.Full (full_of c))
     ++ note_if (nat_lt 0 c.kinds.cut) (notes.Cut c.kinds.cut)
 
 -- all notes
 abbrev pub notes_of : Counts → List Note
-notes_of c = stream_notes c ++ packet_notes c ++ kind_notes c ++ room_notes c
+notes_of c = stream_notes c ++ packet_notes c ++ kind_notes c
 
 -- a note that says that a reader may believe the wrong thing; what is not judged is only named
 abbrev pub is_warning : Note → Bool

@@ -1,13 +1,14 @@
 -- What is known of the two streams of an era, by all records of a capture, also those that are dropped (this project's profile). Offsets count from the
 -- first octet of a stream, and are read nearest to the greatest end so far, so that streams pass 2^32 octets.
-use Rattle.std.specs.Prelude.{ℕ, ◌+◌, ◌-◌, ◌%◌, ◌^◌, ◌==◌, ◌&&◌, not, nat_lt, Bool, true, false, List, [], ◌∷◌, min, max, Option, Some, None, if◌then◌else◌}
+use Rattle.std.specs.Prelude.{ℕ, ◌+◌, ◌-◌, ◌%◌, ◌^◌, ◌==◌, ◌&&◌, ◌||◌, not, nat_lt, Bool, true, false, List, [], ◌∷◌, min, max, Option, Some, None, if◌then◌else◌}
 use Rattle.std.specs.Map.{lookup}
 use Rattle.std.specs.Prelude.{nat_eq}
 use Rattle.indexmap.specs.IndexMap.{insert_entry}
 use Rattle.rule_book.specs.Entries.{PlainEntry}
 use Rattle.rule_book.specs.declared.entry.Ended.{Ended}
 use Rattle.rule_book.specs.declared.entry.Reason.{Reason}
-use Rattle.rule_book.specs.declared.entry.Reason.TheVariants.{Reset, Evicted, Idle, Reopened}
+use Rattle.rule_book.specs.declared.entry.Reason.TheVariants.{Evicted}
+use Rattle.rule_book.specs.declared.entry.Verdict.{Verdict}
 use Rattle.rule_book.specs.declared.rule.Rule.{Rule}
 use Rattle.rule_book.specs.declared.rule.Rule.TheVariants.{LSnap}
 use Rattle.frame_view.specs.declared.flow.Flow.{Flow}
@@ -16,7 +17,7 @@ use Rattle.wire_base.specs.Ipv4 as ip
 use Rattle.wire_base.specs.Tcp.{has_ack, has_fin, has_rst, has_syn}
 use Rattle.wire_base.specs.declared.address.Side.{Side}
 use Rattle.wire_base.specs.declared.address.Side.TheVariants.{Inward, Outward}
-use Rattle.run_notes.specs.Lines.{is_drop, is_fragment, names, no_sides, plus, with_more}
+use Rattle.run_notes.specs.Lines.{is_drop, marks_of, names, no_sides, plus, with_more}
 use Rattle.run_notes.specs.declared.by_side.BySide.{BySide}
 use Rattle.run_notes.specs.declared.streams.Half.{Half}
 use Rattle.run_notes.specs.declared.streams.Streams.{Streams}
@@ -26,12 +27,9 @@ use Rattle.run_notes.specs.declared.streams.Seen.{Seen}
 abbrev pub no_half : Half
 no_half = record { base = None; top = 0; acked = 0; octets = 0; worst = 0; front = 0; end = 0; gaps = 0 }
 
--- the sequence number that is so many octets after another one, and how many octets are from one to another (RFC 9293 section 3.4)
+-- the sequence number that is so many octets after another one (RFC 9293 section 3.4)
 abbrev pub number_after : (number octets : ℕ) → ℕ
 number_after number octets = (number + octets) % 2 ^ 32
-
-abbrev pub distance : (first last : ℕ) → ℕ
-distance first last = (last + 2 ^ 32 - first) % 2 ^ 32
 
 -- the offset that is so far behind `top`, or before it (a distance near 2^32), and `more` octets further; 0 where that is before the first octet; None if it
 -- is more than 2^30 away from `top`
@@ -41,21 +39,15 @@ offset_by top far more =
 
 -- the offset of a sequence number, and `more` octets further
 abbrev pub offset_of : (base top number more : ℕ) → Option ℕ
-offset_of base top number more = offset_by top (distance (number_after base top) number) more
+offset_of base top number more = offset_by top ((number + 2 ^ 32 - number_after base top) % 2 ^ 32) more
 
--- how many octets of a stream a segment takes, with the FIN, and the number of the first of them, behind the SYN
-abbrev pub size_of : Flow → TcpMarks → ℕ
-size_of flow marks = if has_fin marks.flags.0 then plus flow.length 1 else flow.length
-
-abbrev pub start_of : TcpMarks → ℕ
-start_of marks = if has_syn marks.flags.0 then number_after marks.seq 1 else marks.seq
-
--- a segment of an era: the octets that it takes and the number of the first of them, whether it has SYN, what it acknowledges, and whether it is dropped
+-- a segment of an era: how many octets of its stream it takes, with the FIN, and the number of the first of them, behind the SYN, whether it has SYN,
+-- what it acknowledges, and whether it is dropped
 abbrev pub seen_of : (dropped : Bool) → Flow → TcpMarks → Seen
 seen_of dropped flow marks =
     record {
-      size = size_of flow marks;
-      start = start_of marks;
+      size = if has_fin marks.flags.0 then plus flow.length 1 else flow.length;
+      start = if has_syn marks.flags.0 then number_after marks.seq 1 else marks.seq;
       syn = has_syn marks.flags.0;
       ack = if has_ack marks.flags.0 then Some marks.ack else None;
       dropped = dropped;
@@ -67,24 +59,19 @@ begun seen half =
     (if seen.dropped then half else record half { base = Some (if not seen.syn && (seen.size == 0) then number_after seen.start 1 else seen.start); top = seen.size })
 
 -- the gap that an acknowledgment left is filled from its front up to `stop`; it is late where it is filled whole
-abbrev pub filled_to : (stop : ℕ) → Half → Half
-filled_to stop half =
-    (if nat_lt stop half.end then record half { front = stop } else record half { front = 0; end = 0; gaps = plus half.gaps 1 })
-
 abbrev pub filled : (start stop : ℕ) → Half → Half
 filled start stop half =
-    (if nat_lt half.front half.end && not (nat_lt half.front start) && nat_lt half.front stop then filled_to stop half else half)
-
--- octets from one offset to another
-abbrev pub with_octets : (start stop : ℕ) → Seen → Half → Half
-with_octets start stop seen half =
-    (if seen.dropped then half else record (filled start stop half) { top = max half.top stop })
+    if not (nat_lt half.front half.end) || nat_lt half.front start || not (nat_lt half.front stop)
+    then half
+    else if nat_lt stop half.end then record half { front = stop } else record half { front = 0; end = 0; gaps = plus half.gaps 1 }
 
 -- a segment with such octets; those before the first one are not counted
 abbrev pub placed : (start stop : Option ℕ) → Seen → Half → Half
-placed (Some start) (Some stop) seen half = with_octets start stop seen (record half { octets = plus half.octets (min seen.size stop) })
-placed (Some start) None seen half = record half { octets = plus half.octets seen.size }
-placed None stop seen half = record half { octets = plus half.octets seen.size }
+placed (Some start) (Some stop) seen half =
+    if seen.dropped
+    then record half { octets = plus half.octets (min seen.size stop) }
+    else record (filled start stop (record half { octets = plus half.octets (min seen.size stop) })) { top = max half.top stop }
+placed _ _ seen half = record half { octets = plus half.octets seen.size }
 
 -- the side's own segment
 abbrev pub with_own : Seen → Half → Half
@@ -100,18 +87,13 @@ acked_to offset half =
     then record half { front = max half.top half.acked; end = offset; acked = offset }
     else record half { acked = max half.acked offset })
 
-abbrev pub acked_at : Option ℕ → Half → Half
-acked_at None half = half
-acked_at (Some offset) half = acked_to offset half
-
 -- what the other side acknowledges
-abbrev pub acked_by : (ack base : Option ℕ) → Half → Half
-acked_by (Some ack) (Some base) half = acked_at (offset_of base half.top ack 0) half
-acked_by (Some ack) None half = half
-acked_by None base half = half
+abbrev pub acked_by : (ack base : Option ℕ) → (dropped : Bool) → Half → Half
+acked_by (Some ack) (Some base) false half = elim (offset_of base half.top ack 0) [ Some offset ↦ acked_to offset half | None ↦ half ]
+acked_by _ _ _ half = half
 
 abbrev pub with_other : Seen → Half → Half
-with_other seen half = if seen.dropped then half else acked_by seen.ack half.base half
+with_other seen half = acked_by seen.ack half.base seen.dropped half
 
 -- the greatest number of octets that are acknowledged and passed over, and are not in the capture
 abbrev pub with_worst : Half → Half
@@ -136,20 +118,14 @@ Table = List (ℕ × Streams)
 abbrev pub streams_at : (era : ℕ) → Table → Streams
 streams_at era table = elim (lookup (nat_eq era) table) [ Some streams ↦ streams | None ↦ no_streams ]
 
-abbrev pub with_streams : (era : ℕ) → Streams → Table → Table
-with_streams era streams table = insert_entry nat_eq table era streams
-
 -- the era was evicted
 abbrev pub is_evicted : Reason → Bool
-is_evicted Reset = false
 is_evicted Evicted = true
-is_evicted Idle = false
-is_evicted Reopened = false
+is_evicted _ = false
 
 -- these eras ended, for these reasons
 abbrev pub with_end : Ended → Table → Table
-with_end ended table =
-    with_streams ended.era (record (streams_at ended.era table) { evicted = is_evicted ended.reason }) table
+with_end ended table = insert_entry nat_eq table ended.era (record (streams_at ended.era table) { evicted = is_evicted ended.reason })
 
 abbrev pub with_ends : List Ended → Table → Table
 with_ends [] table = table
@@ -169,7 +145,7 @@ no_flows = record { table = []; missing = no_sides; gaps = 0; loose = no_sides }
 abbrev pub with_changed : (era : ℕ) → (old new : Streams) → PlainFlows → PlainFlows
 with_changed era old new flows =
     record flows {
-      table = with_streams era new flows.table;
+      table = insert_entry nat_eq flows.table era new;
       missing = with_more (Some Outward) (new.outward.worst - old.outward.worst) (with_more (Some Inward) (new.inward.worst - old.inward.worst) flows.missing);
       gaps = plus flows.gaps (plus (new.inward.gaps - old.inward.gaps) (new.outward.gaps - old.outward.gaps));
     }
@@ -181,26 +157,17 @@ with_seen era side seen flows = with_changed era (streams_at era flows.table) (w
 abbrev pub loose_octets : List Rule → Flow → (packet : List ℕ) → ℕ
 loose_octets rules flow p = if names rules LSnap then max flow.length (ip.total_length p - 40) else flow.length
 
-abbrev pub with_loose : Option Side → ℕ → PlainFlows → PlainFlows
-with_loose side octets flows = record flows { loose = with_more side octets flows.loose }
+-- a segment of an era, where it has a side and no RST
+abbrev pub with_marks : (era : ℕ) → Option Side → Verdict → Flow → TcpMarks → PlainFlows → PlainFlows
+with_marks era None verdict flow marks flows = flows
+with_marks era (Some side) verdict flow marks flows =
+    if has_rst marks.flags.0 then flows else with_seen era side (seen_of (is_drop verdict) flow marks) flows
 
--- a segment of an era, or of none: its octets are loose then
-abbrev pub with_marks : PlainEntry → Flow → (packet : List ℕ) → TcpMarks → PlainFlows → PlainFlows
-with_marks entry flow p marks flows = elim entry.era [
-  | None ↦ with_loose entry.side (loose_octets entry.rules flow p) flows
-  | Some era ↦ elim entry.side [
-    | None ↦ flows
-    | Some side ↦ if has_rst marks.flags.0 then flows else with_seen era side (seen_of (is_drop entry.verdict) flow marks) flows
-  ]
-]
-
--- a packet of TCP: a segment that is no fragment, or octets that belong to no stream
-abbrev pub with_tcp : PlainEntry → Flow → (packet : List ℕ) → PlainFlows → PlainFlows
-with_tcp entry flow p flows = elim flow.tcp [
-  | None ↦ with_loose entry.side (loose_octets entry.rules flow p) flows
-  | Some marks ↦ if is_fragment flow then with_loose entry.side (loose_octets entry.rules flow p) flows else with_marks entry flow p marks flows
-]
+-- a packet of TCP: a segment of an era that is no fragment, or octets that belong to no stream
+abbrev pub with_tcp : Option TcpMarks → (era : Option ℕ) → PlainEntry → Flow → (packet : List ℕ) → PlainFlows → PlainFlows
+with_tcp (Some marks) (Some era) entry flow p flows = with_marks era entry.side entry.verdict flow marks flows
+with_tcp _ _ entry flow p flows = record flows { loose = with_more entry.side (loose_octets entry.rules flow p) flows.loose }
 
 -- a packet
 abbrev pub with_packet : PlainEntry → Flow → (packet : List ℕ) → PlainFlows → PlainFlows
-with_packet entry flow p flows = if flow.protocol == 6 then with_tcp entry flow p flows else flows
+with_packet entry flow p flows = if flow.protocol == 6 then with_tcp (marks_of flow) entry.era entry flow p flows else flows

@@ -16,13 +16,11 @@ use Rattle.run_notes.specs.declared.sums.Sums.{Sums}
 abbrev pub field_of : (packet : List ℕ) → ℕ
 field_of p = if ip.protocol p == 6 then u16_at (message_in p) 16 else u16_at (message_in p) 6
 
--- the sum of the pseudo header of a packet
-abbrev pub pseudo_of : (packet : List ℕ) → ℕ
-pseudo_of p = pseudo_sum (ip.source p) (ip.destination p) (ip.protocol p) (length (message_in p))
-
 -- the checksum field has the sum of the pseudo header, folded: a stack writes it there for a card that adds the octets of the message
 abbrev pub is_pseudo : (packet : List ℕ) → Bool
-is_pseudo p = nat_lt 0 (field_of p) && (field_of p % 65535 == pseudo_of p % 65535)
+is_pseudo p =
+    nat_lt 0 (field_of p)
+    && (field_of p % 65535 == pseudo_sum (ip.source p) (ip.destination p) (ip.protocol p) (length (message_in p)) % 65535)
 
 -- the line says that the checksum of a message is wrong
 abbrev pub names_sum : List Rule → Bool
@@ -46,16 +44,14 @@ is_carried flow = (flow.protocol == 6) || (flow.protocol == 17)
 abbrev pub no_sums : Sums
 no_sums = record { packets = 0; carried = no_sides; to_card = no_sides; wrong = no_sides }
 
--- one more packet, which is no fragment
-abbrev pub with_whole : Option Side → List Rule → Flow → (packet : List ℕ) → Sums → Sums
-with_whole side rules flow p sums =
-    record sums {
+-- one more packet; of a fragment nothing else is counted
+abbrev pub with_packet : Option Side → List Rule → Flow → (packet : List ℕ) → Sums → Sums
+with_packet side rules flow p sums =
+    if is_fragment flow
+    then record sums { packets = plus sums.packets 1 }
+    else record {
+      packets = plus sums.packets 1;
       carried = with_one_if (is_carried flow) side sums.carried;
       to_card = with_one_if (is_left rules flow p) side sums.to_card;
       wrong = with_one_if (is_wrong rules flow p) side sums.wrong;
     }
-
--- one more packet
-abbrev pub with_packet : Option Side → List Rule → Flow → (packet : List ℕ) → Sums → Sums
-with_packet side rules flow p sums =
-    (if is_fragment flow then record sums { packets = plus sums.packets 1 } else with_whole side rules flow p (record sums { packets = plus sums.packets 1 }))

@@ -1,5 +1,5 @@
 -- Connections that a capture does not begin (this project's profile): their four-tuples, each with the last era that has begun with it.
-use Rattle.std.specs.Prelude.{ℕ, ◌==◌, ◌&&◌, not, Bool, true, false, List, [], Option, Some, None, if◌then◌else◌}
+use Rattle.std.specs.Prelude.{ℕ, ◌==◌, ◌&&◌, not, Bool, List, [], Option, Some, None, if◌then◌else◌}
 use Rattle.std.specs.Map.{lookup}
 use Rattle.std.specs.Option.{is_some}
 use Rattle.indexmap.specs.IndexMap.{insert_entry}
@@ -12,7 +12,7 @@ use Rattle.wire_base.specs.Tcp.{has_rst, has_syn}
 use Rattle.wire_base.specs.declared.address.FlowKey.{FlowKey}
 use Rattle.wire_base.specs.declared.address.Side.{Side}
 use Rattle.wire_base.specs.declared.address.Side.TheVariants.{Inward, Outward}
-use Rattle.run_notes.specs.Lines.{is_fragment, names, plus, plus_if}
+use Rattle.run_notes.specs.Lines.{marks_of, names, plus, plus_if}
 use Rattle.run_notes.specs.Streams.{Table, streams_at}
 
 -- the four-tuple of a segment, the outside host first
@@ -37,48 +37,36 @@ pub record PlainTuples : Type 0 where
 abbrev pub no_tuples : PlainTuples
 no_tuples = record { table = []; begun = 0; middle = 0; probed = 0; resumed = 0 }
 
--- a segment goes on with a connection of which this is the last era, if there is one; it is counted where that was evicted, or where there is none
-abbrev pub went_on : (last : Option ℕ) → Table → (begins : Bool) → (octets : ℕ) → PlainTuples → PlainTuples
-went_on (Some era) eras begins octets tuples = record tuples { resumed = plus_if (streams_at era eras).evicted tuples.resumed }
-went_on None eras begins octets tuples = record tuples { middle = plus_if begins tuples.middle; probed = plus tuples.probed (if begins then 0 else octets) }
+-- a segment begins an era without SYN
+abbrev pub is_middle : PlainEntry → TcpMarks → Bool
+is_middle entry marks = is_some entry.begun && not (has_syn marks.flags.0)
 
--- a segment of this four-tuple goes on with a connection
-abbrev pub with_going : FlowKey → Table → (begins : Bool) → (octets : ℕ) → PlainTuples → PlainTuples
-with_going key eras begins octets tuples = went_on (lookup (is_key key) tuples.table) eras begins octets tuples
-
--- a segment begins this era
-abbrev pub with_begun : FlowKey → (era : ℕ) → PlainTuples → PlainTuples
-with_begun key era tuples = record tuples { table = insert_entry is_key tuples.table key era }
-
--- a segment that begins an era goes on if it has no SYN
-abbrev pub with_beginning : FlowKey → (era : ℕ) → TcpMarks → Table → PlainTuples → PlainTuples
-with_beginning key era marks eras tuples =
-    with_begun key era (if has_syn marks.flags.0 then tuples else with_going key eras true 0 tuples)
-
--- a segment without era goes on if it is replaced by a probe and no RST
+-- a segment is replaced by a probe, is of no era, and no RST
 abbrev pub is_probed : PlainEntry → TcpMarks → Bool
-is_probed entry marks = names entry.rules CProbe && not (is_some entry.era) && not (has_rst marks.flags.0)
+is_probed entry marks = names entry.rules CProbe && not (is_some entry.begun) && not (is_some entry.era) && not (has_rst marks.flags.0)
 
--- a segment of this four-tuple
-abbrev pub with_segment : FlowKey → PlainEntry → (octets : ℕ) → TcpMarks → Table → PlainTuples → PlainTuples
-with_segment key entry octets marks eras tuples = elim entry.begun [
-  | Some era ↦ with_beginning key era marks eras tuples
-  | None ↦ if is_probed entry marks then with_going key eras false octets tuples else tuples
-]
+-- a segment goes on with a connection of which this is the last era, if there is one; it is counted where that was evicted, or where there is none
+abbrev pub went_on : (last : Option ℕ) → Table → (middle : Bool) → (octets : ℕ) → PlainTuples → PlainTuples
+went_on (Some era) eras middle octets tuples = record tuples { resumed = plus_if (streams_at era eras).evicted tuples.resumed }
+went_on None eras middle octets tuples = record tuples { middle = plus_if middle tuples.middle; probed = plus tuples.probed (if middle then 0 else octets) }
+
+-- a segment of this four-tuple goes on if it begins an era without SYN, or is of none and replaced by a probe
+abbrev pub gone_on : FlowKey → PlainEntry → (octets : ℕ) → TcpMarks → Table → PlainTuples → PlainTuples
+gone_on key entry octets marks eras tuples =
+    if not (is_middle entry marks) && not (is_probed entry marks)
+    then tuples
+    else went_on (lookup (is_key key) tuples.table) eras (is_middle entry marks) octets tuples
+
+-- this era, where one begins, is the last one of the four-tuple
+abbrev pub with_begun : FlowKey → (begun : Option ℕ) → PlainTuples → PlainTuples
+with_begun key None tuples = tuples
+with_begun key (Some era) tuples = record tuples { table = insert_entry is_key tuples.table key era }
 
 -- a packet, where it is a segment that is no fragment and has a side
-abbrev pub with_packet : PlainEntry → Flow → Table → PlainTuples → PlainTuples
-with_packet entry flow eras tuples = elim entry.side [
-  | None ↦ tuples
-  | Some side ↦ elim flow.ports [
-    | None ↦ tuples
-    | Some ports ↦ elim flow.tcp [
-      | None ↦ tuples
-      | Some marks ↦ if is_fragment flow then tuples else with_segment (key_of side flow ports) entry flow.length marks eras tuples
-    ]
-  ]
-]
+abbrev pub with_segment : Option Side → Option Ports → Option TcpMarks → PlainEntry → Flow → Table → PlainTuples → PlainTuples
+with_segment (Some side) (Some ports) (Some marks) entry flow eras tuples =
+    with_begun (key_of side flow ports) entry.begun (gone_on (key_of side flow ports) entry flow.length marks eras tuples)
+with_segment _ _ _ entry flow eras tuples = tuples
 
--- one more era has begun, where the line says so
-abbrev pub with_count : PlainEntry → PlainTuples → PlainTuples
-with_count entry tuples = record tuples { begun = plus_if (is_some entry.begun) tuples.begun }
+abbrev pub with_packet : PlainEntry → Flow → Table → PlainTuples → PlainTuples
+with_packet entry flow eras tuples = with_segment entry.side flow.ports (marks_of flow) entry flow eras tuples

@@ -9,13 +9,13 @@ use Rattle.run_notes.specs.Lines.{is_fragment, plus, plus_if}
 abbrev pub is_candidate : Flow → Bool
 is_candidate flow = ((flow.protocol == 1) || (flow.protocol == 6) || (flow.protocol == 17)) && not (flow.identification == 0) && not (is_fragment flow)
 
--- its octets up to the end of the message
-abbrev pub own_octets : (packet : List ℕ) → List ℕ
-own_octets p = take (message_end p) p
-
--- two packets are equal but for the time to live and the header checksum (octets 8, 10 and 11)
+-- two packets are equal but for the time to live and the header checksum (octets 8, 10 and 11); octet 5, one of the identification, is compared first
 abbrev pub is_twin : (a b : List ℕ) → Bool
-is_twin a b = bytes_eq (drop 12 a) (drop 12 b) && (slice_index a 9 == slice_index b 9) && bytes_eq (take 8 a) (take 8 b)
+is_twin a b =
+    (slice_index a 5 == slice_index b 5)
+    && (slice_index a 9 == slice_index b 9)
+    && bytes_eq (take 8 a) (take 8 b)
+    && bytes_eq (drop 12 a) (drop 12 b)
 
 -- the octets of the packets of the last four records, the newest first: [] of a record that is no candidate
 pub record Recent : Type 0 where
@@ -23,9 +23,6 @@ pub record Recent : Type 0 where
   pub second : List ℕ
   pub third : List ℕ
   pub fourth : List ℕ
-
-abbrev pub no_packets : Recent
-no_packets = record { first = []; second = []; third = []; fourth = [] }
 
 -- one more packet
 abbrev pub with_newest : List ℕ → Recent → Recent
@@ -42,7 +39,7 @@ pub record PlainTwins : Type 0 where
   pub recent : Recent
 
 abbrev pub no_twins : PlainTwins
-no_twins = record { candidates = 0; twice = 0; recent = no_packets }
+no_twins = record { candidates = 0; twice = 0; recent = record { first = []; second = []; third = []; fourth = [] } }
 
 -- one more candidate
 abbrev pub with_candidate : List ℕ → PlainTwins → PlainTwins
@@ -57,6 +54,6 @@ with_candidate octets twins =
 abbrev pub with_other : PlainTwins → PlainTwins
 with_other twins = record twins { recent = with_newest [] twins.recent }
 
--- one more packet
+-- one more packet: a candidate by its octets up to the end of the message
 abbrev pub with_packet : Flow → (packet : List ℕ) → PlainTwins → PlainTwins
-with_packet flow packet twins = if is_candidate flow then with_candidate (own_octets packet) twins else with_other twins
+with_packet flow p twins = if is_candidate flow then with_candidate (take (message_end p) p) twins else with_other twins

@@ -14,17 +14,6 @@ pub struct BySide {
 }
 
 impl BySide {
-    /// Returns that nothing is counted.
-    pub(crate) fn new() -> BySide
-        ensures { result ≡ spec.no_sides }
-    {
-        BySide {
-            inward: 0,
-            outward: 0,
-            neither: 0,
-        }
-    }
-
     /// Counts so many more on this side.
     pub(crate) fn add(&mut self, side: Option<Side>, more: u64)
         ensures { self.new ≡ spec.with_more side more self.old }

@@ -10,7 +10,8 @@
 //! their four-tuples, of the datagrams of which a fragment was held, of the types and protocols that
 //! are not judged, and of the last four records. The octets that a side lacks are at most those that
 //! the other side acknowledged, and at most those that its own records pass: one side alone cannot
-//! make them up in an era that begins with its SYN.
+//! make them up, but only in a capture that is whole and in order, and in an era that begins with its
+//! SYN.
 #![tactic(auto)]
 
 mod by_side;
@@ -26,6 +27,7 @@ mod twins;
 
 pub use by_side::BySide;
 pub use fragments::NumberCount;
+pub use kinds::Full;
 pub use line::Line;
-pub use list::{Full, Note, has_warning};
+pub use list::{Note, has_warning};
 pub use notes::Notes;

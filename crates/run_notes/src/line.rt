@@ -4,7 +4,7 @@ ghost use Rattle.wire_base.specs.Numbers.{u16_at};
 ghost use Rattle.rule_book.specs.Entries.{plain};
 ghost use Rattle.run_notes.specs.Lines as spec;
 
-use frame_view::Flow;
+use frame_view::{Flow, TcpMarks};
 use rule_book::{Entry, Rule, Verdict};
 use wire_base::Link;
 
@@ -35,6 +35,13 @@ pub(crate) fn is_fragment(flow: Flow) -> bool
     ensures { result ≡ spec.is_fragment flow }
 {
     flow.more || flow.offset > 0
+}
+
+/// Returns the marks of a segment that is no fragment.
+pub(crate) fn marks_of(flow: Flow) -> Option<TcpMarks>
+    ensures { result ≡ spec.marks_of flow }
+{
+    if is_fragment(flow) { None } else { flow.tcp }
 }
 
 /// Returns whether the destination is a group of hosts (RFC 1112 section 4).

@@ -3,19 +3,9 @@ ghost use Rattle.std.specs.Prelude.{◌≡◌, ◌++◌, IfOk, OnOk};
 ghost use Rattle.run_notes.specs.Counts.{plain_counts};
 ghost use Rattle.run_notes.specs.Notes as spec;
 
-use crate::{BySide, Notes};
+use crate::{BySide, Full, Notes};
 use edge_io::NoMemory;
 use std::alloc::Global;
-
-/// Records that a greater table would have judged otherwise, by the option that sets its size.
-#[derive(Clone, Copy, Debug, PartialEq, Eq)]
-pub struct Full {
-    pub flows: u64,
-    pub cells: u64,
-    pub quota: u64,
-    pub frags: u64,
-    pub frag_cells: u64,
-}
 
 /// A note on a capture, with its counts.
 #[derive(Clone, Copy, Debug, PartialEq, Eq)]
@@ -70,7 +60,6 @@ impl Notes {
         self.add_streams(&mut list)?;
         self.add_packets(&mut list)?;
         self.add_kinds(&mut list)?;
-        self.add_room(&mut list)?;
         Ok(list)
     }
 
@@ -78,17 +67,16 @@ impl Notes {
     fn add_streams(&self, list: &mut Vec<Note>) -> Result<(), NoMemory>
         ensures { OnOk result (list.new.items ≡ list.old.items ++ spec.stream_notes (plain_counts self.now)) }
     {
-        let inward = self.lost_in();
-        let outward = self.lost_out();
-        let lost = Note::Lost { inward, outward };
-        add_if(list, self.has_lost(), lost)?;
+        let (missing, loose) = (self.flows.missing, self.flows.loose);
+        let inward = lost_of(missing.inward, loose.inward, loose.neither);
+        let outward = lost_of(missing.outward, loose.outward, loose.neither);
+        let order = self.has_order();
+        let lost = has_lost(inward, outward, order);
+        add_if(list, lost, Note::Lost { inward, outward })?;
         let gaps = self.flows.gaps;
-        add_if(list, self.has_order(), Note::Order { gaps })?;
-        let half = Note::Half {
-            eras: self.tuples.middle,
-            octets: self.tuples.probed,
-        };
-        add_if(list, self.has_half(), half)?;
+        add_if(list, order, Note::Order { gaps })?;
+        let (eras, octets) = (self.tuples.middle, self.tuples.probed);
+        add_if(list, self.has_half(), Note::Half { eras, octets })?;
         let records = self.kinds.answering;
         add_if(list, self.has_one(), Note::One { records })
     }
@@ -102,12 +90,13 @@ impl Notes {
         let wrong = self.sums.wrong;
         add_if(list, self.has_wrong(), Note::Wrong { records: wrong })?;
         let twice = self.twins.twice;
-        add_if(list, self.has_twice(), Note::Twice { records: twice })?;
+        let many = is_share(twice, 4, 16, self.twins.candidates);
+        add_if(list, many, Note::Twice { records: twice })?;
         let foreign = self.kinds.foreign;
         add_if(list, self.has_foreign(), Note::Foreign { records: foreign })
     }
 
-    // Adds the notes on what is not judged.
+    // Adds the notes on what is not judged, on tables that were full, and on records that are cut.
     fn add_kinds(&self, list: &mut Vec<Note>) -> Result<(), NoMemory>
         ensures { OnOk result (list.new.items ≡ list.old.items ++ spec.kind_notes (plain_counts self.now)) }
     {
@@ -116,47 +105,11 @@ impl Notes {
         let ipv6 = self.kinds.ipv6;
         add_if(list, ipv6 > 0, Note::Ipv6 { records: ipv6 })?;
         let tunnels = self.kinds.tunnels;
-        add_if(list, tunnels > 0, Note::Tunnels { records: tunnels })
-    }
-
-    // Adds the notes on tables that were full, and on records that are cut.
-    fn add_room(&self, list: &mut Vec<Note>) -> Result<(), NoMemory>
-        ensures { OnOk result (list.new.items ≡ list.old.items ++ spec.room_notes (plain_counts self.now)) }
-    {
+        add_if(list, tunnels > 0, Note::Tunnels { records: tunnels })?;
         let records = self.full();
-        add_if(list, self.has_full(), Note::Full { records })?;
+        add_if(list, records.is_any(), Note::Full { records })?;
         let cut = self.kinds.cut;
         add_if(list, cut > 0, Note::Cut { records: cut })
-    }
-
-    // Returns the most octets of a side that no record had by then, less those that belong to no
-    // stream.
-    fn lost_in(&self) -> u64
-        ensures { result ≡ spec.lost_in (plain_counts self.now) }
-    {
-        let missing = self.flows.missing.inward;
-        missing
-            .saturating_sub(self.flows.loose.inward)
-            .saturating_sub(self.flows.loose.neither)
-    }
-
-    fn lost_out(&self) -> u64
-        ensures { result ≡ spec.lost_out (plain_counts self.now) }
-    {
-        let missing = self.flows.missing.outward;
-        missing
-            .saturating_sub(self.flows.loose.outward)
-            .saturating_sub(self.flows.loose.neither)
-    }
-
-    // Returns whether octets are lost, in a capture whose records are in order.
-    fn has_lost(&self) -> bool
-        ensures { result ≡ spec.has_lost (plain_counts self.now) }
-    {
-        let inward = self.lost_in();
-        let outward = self.lost_out();
-        let order = self.has_order();
-        (inward > 0 || outward > 0) && !order
     }
 
     // Returns whether records come behind their acknowledgment; an attacker may make one or two gaps.
@@ -184,7 +137,7 @@ impl Notes {
         let card = self.has_card();
         let wrong = self.has_wrong();
         let one = self.has_one();
-        let full = self.has_full();
+        let full = self.full().is_any();
         let foreign = self.has_foreign();
         order || card || wrong || one || full || foreign
     }
@@ -223,13 +176,6 @@ impl Notes {
         inward || outward || neither
     }
 
-    // Returns whether many packets are in the capture twice.
-    fn has_twice(&self) -> bool
-        ensures { result ≡ spec.has_twice (plain_counts self.now) }
-    {
-        is_share(self.twins.twice, 4, 16, self.twins.candidates)
-    }
-
     // Returns whether most packets belong to no side.
     fn has_foreign(&self) -> bool
         ensures { result ≡ spec.has_foreign (plain_counts self.now) }
@@ -237,33 +183,14 @@ impl Notes {
         u128::from(self.sums.packets) < 2 * u128::from(self.kinds.foreign)
     }
 
-    // Returns how many records a greater table of connections would have judged otherwise.
-    fn full_flows(&self) -> u64
-        ensures { result ≡ spec.full_flows (plain_counts self.now) }
-    {
-        self.kinds.flows.saturating_add(self.tuples.resumed)
-    }
-
     // Returns the records by the option whose table was full.
     fn full(&self) -> Full
         ensures { result ≡ spec.full_of (plain_counts self.now) }
     {
         Full {
-            flows: self.full_flows(),
-            cells: self.kinds.cells,
-            quota: self.kinds.quota,
-            frags: self.kinds.frags,
-            frag_cells: self.kinds.frag_cells,
+            flows: self.kinds.full.flows.saturating_add(self.tuples.resumed),
+            ..self.kinds.full
         }
-    }
-
-    // Returns whether a table was full.
-    fn has_full(&self) -> bool
-        ensures { result ≡ spec.has_full (plain_counts self.now) }
-    {
-        let kinds = self.kinds;
-        let flows = self.full_flows();
-        flows > 0 || kinds.cells > 0 || kinds.quota > 0 || kinds.frags > 0 || kinds.frag_cells > 0
     }
 }
 
@@ -275,6 +202,20 @@ fn add_if(list: &mut Vec<Note>, test: bool, note: Note) -> Result<(), NoMemory>
         list.push(note)?;
     }
     Ok(())
+}
+
+// Returns the most octets of a side that no record had by then, less those that belong to no stream.
+fn lost_of(missing: u64, own: u64, neither: u64) -> u64
+    ensures { result ≡ spec.lost_of missing own neither }
+{
+    missing.saturating_sub(own).saturating_sub(neither)
+}
+
+// Returns whether octets are lost, in a capture whose records are in order.
+fn has_lost(inward: u64, outward: u64, order: bool) -> bool
+    ensures { result ≡ spec.has_lost inward outward order }
+{
+    (inward > 0 || outward > 0) && !order
 }
 
 // Returns whether a count reaches a least one, and one in `part` of all.

@@ -11,7 +11,7 @@ ghost use Rattle.run_notes.specs.Lines.{flow_at};
 use crate::Line;
 use crate::fragments::{Fragments, NumberCount, Numbered, count_number, listed};
 use crate::kinds::Kinds;
-use crate::line::names;
+use crate::line::{names, plus_if};
 use crate::streams::Flows;
 use crate::sums::Sums;
 use crate::tuples::Tuples;
@@ -99,7 +99,7 @@ impl Notes {
     {
         let entry = line.entry;
         self.kinds.count(line, flow);
-        self.tuples.count(entry);
+        self.tuples.begun = plus_if(entry.begun.is_some(), self.tuples.begun);
         self.flows.end_all(entry.ended.as_slice())?;
         count_number(&mut self.types, type_of(line))?;
         count_number(

@@ -7,7 +7,7 @@ ghost use Rattle.run_notes.specs.Counts.{plain_flows};
 ghost use Rattle.run_notes.specs.Streams as spec;
 
 use crate::BySide;
-use crate::line::{is_drop, is_fragment, names};
+use crate::line::{is_drop, marks_of, names};
 use edge_io::NoMemory;
 use frame_view::{Flow, TcpMarks};
 use indexmap::IndexMap;
@@ -21,7 +21,7 @@ const TURN: u64 = 1 << 32;
 const FAR: u64 = 1 << 30;
 
 /// What is known of the stream of one side. Offsets count octets from `base`.
-#[derive(Clone, Copy, Debug, PartialEq, Eq)]
+#[derive(Clone, Copy, Debug, Default, PartialEq, Eq)]
 pub(crate) struct Half {
     /// The sequence number of the first octet.
     pub(crate) base: Option<u32>,
@@ -41,7 +41,7 @@ pub(crate) struct Half {
 }
 
 /// What is known of an era.
-#[derive(Clone, Copy, Debug, PartialEq, Eq)]
+#[derive(Clone, Copy, Debug, Default, PartialEq, Eq)]
 pub(crate) struct Streams {
     pub(crate) inward: Half,
     pub(crate) outward: Half,
@@ -75,22 +75,6 @@ pub(crate) struct Flows {
 }
 
 impl Half {
-    // Returns that nothing is known.
-    fn new() -> Half
-        ensures { result ≡ spec.no_half }
-    {
-        Half {
-            base: None,
-            top: 0,
-            acked: 0,
-            octets: 0,
-            worst: 0,
-            front: 0,
-            end: 0,
-            gaps: 0,
-        }
-    }
-
     // Takes a segment of this side.
     fn take_own(&mut self, seen: Seen)
         ensures { self.new ≡ spec.with_own seen self.old }
@@ -137,14 +121,9 @@ impl Half {
     fn fill(&mut self, start: u64, stop: u64)
         ensures { self.new ≡ spec.filled start stop self.old }
     {
-        if self.front < self.end && start <= self.front && self.front < stop {
-            self.fill_to(stop);
+        if self.front >= self.end || start > self.front || stop <= self.front {
+            return;
         }
-    }
-
-    fn fill_to(&mut self, stop: u64)
-        ensures { self.new ≡ spec.filled_to stop self.old }
-    {
         if stop < self.end {
             self.front = stop;
             return;
@@ -158,22 +137,18 @@ impl Half {
     fn take_other(&mut self, seen: Seen)
         ensures { self.new ≡ spec.with_other seen self.old }
     {
-        if seen.dropped {
+        let (Some(ack), Some(base), false) = (seen.ack, self.base, seen.dropped) else {
             return;
-        }
-        if let (Some(ack), Some(base)) = (seen.ack, self.base) {
-            let offset = offset_of(base, self.top, ack, 0);
+        };
+        if let Some(offset) = offset_of(base, self.top, ack, 0) {
             self.acknowledge(offset);
         }
     }
 
-    // Takes what the other side acknowledges.
-    fn acknowledge(&mut self, offset: Option<u64>)
-        ensures { self.new ≡ spec.acked_at offset self.old }
+    // Takes an acknowledgment up to an offset.
+    fn acknowledge(&mut self, offset: u64)
+        ensures { self.new ≡ spec.acked_to offset self.old }
     {
-        let Some(offset) = offset else {
-            return;
-        };
         let known = self.top.max(self.acked);
         if known < offset {
             self.front = known;
@@ -196,11 +171,7 @@ impl Streams {
     fn new() -> Streams
         ensures { result ≡ spec.no_streams }
     {
-        Streams {
-            inward: Half::new(),
-            outward: Half::new(),
-            evicted: false,
-        }
+        Streams::default()
     }
 
     // Takes a segment of this side.
@@ -229,9 +200,9 @@ impl Flows {
     {
         Flows {
             eras: IndexMap::new(alloc),
-            missing: BySide::new(),
+            missing: BySide::default(),
             gaps: 0,
-            loose: BySide::new(),
+            loose: BySide::default(),
         }
     }
 
@@ -272,49 +243,50 @@ impl Flows {
         if flow.protocol != protocol::TCP {
             return Ok(());
         }
-        match flow.tcp {
-            Some(marks) if !is_fragment(flow) => self.take_marks(entry, flow, packet, marks),
+        match (marks_of(flow), entry.era) {
+            (Some(marks), Some(era)) => self.take_marks(era, entry, flow, marks),
             _ => {
-                self.add_loose(entry, flow, packet);
+                let octets = loose_octets(entry.rules.as_slice(), flow, packet);
+                self.loose.add(entry.side, octets);
                 Ok(())
             }
         }
     }
 
-    // Takes a segment that is no fragment.
+    // Takes a segment of an era, where it has a side and no RST.
     fn take_marks(
         &mut self,
+        era: u32,
         entry: &Entry,
         flow: Flow,
-        packet: &[u8],
         marks: TcpMarks,
     ) -> Result<(), NoMemory>
-        requires { IsReadable packet.now }
-        ensures { OnOk result (plain_flows self.new ≡ spec.with_marks (plain entry.now) flow packet.now marks (plain_flows self.old)) }
+        ensures { OnOk result (plain_flows self.new ≡ spec.with_marks era (plain entry.now).side (plain entry.now).verdict flow marks (plain_flows self.old)) }
     {
-        let Some(era) = entry.era else {
-            self.add_loose(entry, flow, packet);
-            return Ok(());
-        };
-        let Some(side) = entry.side else {
-            return Ok(());
-        };
-        if marks.flags.rst() {
-            return Ok(());
+        match entry.side {
+            Some(side) if !marks.flags.rst() => {
+                let seen = seen_of(is_drop(entry.verdict), flow, marks);
+                self.take_seen(era, side, seen)
+            }
+            _ => Ok(()),
         }
-        let seen = seen_of(is_drop(entry.verdict), flow, marks);
-        self.take_seen(era, side, seen)
     }
 
     // Takes a segment of an era.
     fn take_seen(&mut self, era: u32, side: Side, seen: Seen) -> Result<(), NoMemory>
         ensures { OnOk result (plain_flows self.new ≡ spec.with_seen era side seen (plain_flows self.old)) }
     {
-        let old = self.streams(era);
-        let mut new = old;
+        if let Some(streams) = self.eras.get_mut(&era) {
+            let old = *streams;
+            streams.take(side, seen);
+            let new = *streams;
+            self.add_change(old, new);
+            return Ok(());
+        }
+        let mut new = Streams::new();
         new.take(side, seen);
         self.eras.insert(era, new)?;
-        self.add_change(old, new);
+        self.add_change(Streams::new(), new);
         Ok(())
     }
 
@@ -329,15 +301,6 @@ impl Flows {
         let filled = new.inward.gaps.saturating_sub(old.inward.gaps);
         let more = new.outward.gaps.saturating_sub(old.outward.gaps);
         self.gaps = self.gaps.saturating_add(filled.saturating_add(more));
-    }
-
-    // Counts the octets of a packet that belong to no stream.
-    fn add_loose(&mut self, entry: &Entry, flow: Flow, packet: &[u8])
-        requires { IsReadable packet.now }
-        ensures { plain_flows self.new ≡ spec.with_loose (plain entry.now).side (spec.loose_octets (plain entry.now).rules flow packet.now) (plain_flows self.old) }
-    {
-        let octets = loose_octets(entry.rules.as_slice(), flow, packet);
-        self.loose.add(entry.side, octets);
     }
 }
 

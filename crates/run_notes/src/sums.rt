@@ -30,12 +30,7 @@ impl Sums {
     pub(crate) fn new() -> Sums
         ensures { result ≡ spec.no_sums }
     {
-        Sums {
-            packets: 0,
-            carried: BySide::new(),
-            to_card: BySide::new(),
-            wrong: BySide::new(),
-        }
+        Sums::default()
     }
 
     /// Counts the packet of a record.
@@ -44,16 +39,9 @@ impl Sums {
         ensures { self.new ≡ spec.with_packet (plain entry.now).side (plain entry.now).rules flow packet.now self.old }
     {
         self.packets = self.packets.saturating_add(1);
-        if !is_fragment(flow) {
-            self.count_whole(entry, flow, packet);
+        if is_fragment(flow) {
+            return;
         }
-    }
-
-    // Counts a packet that is no fragment.
-    fn count_whole(&mut self, entry: &Entry, flow: Flow, packet: &[u8])
-        requires { IsReadable packet.now }
-        ensures { self.new ≡ spec.with_whole (plain entry.now).side (plain entry.now).rules flow packet.now self.old }
-    {
         self.carried.add_if(is_carried(flow), entry.side);
         let rules = entry.rules.as_slice();
         let left = is_left(rules, flow, packet);

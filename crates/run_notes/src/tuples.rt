@@ -5,7 +5,7 @@ ghost use Rattle.rule_book.specs.Entries.{plain};
 ghost use Rattle.run_notes.specs.Counts.{plain_tuples};
 ghost use Rattle.run_notes.specs.Tuples as spec;
 
-use crate::line::{is_fragment, names, plus_if};
+use crate::line::{marks_of, names, plus_if};
 use crate::streams::Flows;
 use edge_io::NoMemory;
 use frame_view::{Flow, Ports, TcpMarks};
@@ -43,81 +43,47 @@ impl Tuples {
         }
     }
 
-    /// Counts an era that has begun, where the line says so.
-    pub(crate) fn count(&mut self, entry: &Entry)
-        ensures { plain_tuples self.new ≡ spec.with_count (plain entry.now) (plain_tuples self.old) }
-    {
-        self.begun = plus_if(entry.begun.is_some(), self.begun);
-    }
-
     /// Takes the packet of a line, where it is a segment that is no fragment and has a side.
     pub(crate) fn take(&mut self, entry: &Entry, flow: Flow, eras: &Flows) -> Result<(), NoMemory>
         ensures { OnOk result (plain_tuples self.new ≡ spec.with_packet (plain entry.now) flow eras.now.eras.entries (plain_tuples self.old)) }
     {
-        let Some(side) = entry.side else {
-            return Ok(());
-        };
-        let Some(ports) = flow.ports else {
-            return Ok(());
-        };
-        let Some(marks) = flow.tcp else {
-            return Ok(());
-        };
-        if is_fragment(flow) {
-            return Ok(());
+        match (entry.side, flow.ports, marks_of(flow)) {
+            (Some(side), Some(ports), Some(marks)) => {
+                let key = key_of(side, flow, ports);
+                self.go_on(key, entry, flow.length, marks, eras);
+                self.begin(key, entry.begun)
+            }
+            _ => Ok(()),
         }
-        self.take_segment(key_of(side, flow, ports), entry, flow.length, marks, eras)
     }
 
-    // Takes a segment of this four-tuple.
-    fn take_segment(
-        &mut self,
-        key: FlowKey,
-        entry: &Entry,
-        octets: u64,
-        marks: TcpMarks,
-        eras: &Flows,
-    ) -> Result<(), NoMemory>
-        ensures { OnOk result (plain_tuples self.new ≡ spec.with_segment key (plain entry.now) octets marks eras.now.eras.entries (plain_tuples self.old)) }
+    // Takes a segment of this four-tuple, where it goes on with a connection.
+    fn go_on(&mut self, key: FlowKey, entry: &Entry, octets: u64, marks: TcpMarks, eras: &Flows)
+        ensures { plain_tuples self.new ≡ spec.gone_on key (plain entry.now) octets marks eras.now.eras.entries (plain_tuples self.old) }
     {
-        if let Some(era) = entry.begun {
-            return self.begin(key, era, marks, eras);
+        let middle = is_middle(entry, marks);
+        let probed = is_probed(entry, marks);
+        if !middle && !probed {
+            return;
         }
-        if is_probed(entry, marks) {
-            self.go_on(key, eras, false, octets);
-        }
-        Ok(())
-    }
-
-    // Takes a segment that begins an era.
-    fn begin(
-        &mut self,
-        key: FlowKey,
-        era: u32,
-        marks: TcpMarks,
-        eras: &Flows,
-    ) -> Result<(), NoMemory>
-        ensures { OnOk result (plain_tuples self.new ≡ spec.with_beginning key era marks eras.now.eras.entries (plain_tuples self.old)) }
-    {
-        if !marks.flags.syn() {
-            self.go_on(key, eras, true, 0);
-        }
-        self.eras.insert(key, era)?;
-        Ok(())
-    }
-
-    // Takes a segment that goes on with a connection.
-    fn go_on(&mut self, key: FlowKey, eras: &Flows, begins: bool, octets: u64)
-        ensures { plain_tuples self.new ≡ spec.with_going key eras.now.eras.entries begins octets (plain_tuples self.old) }
-    {
         match self.last(key) {
             Some(era) => self.resumed = plus_if(eras.streams(era).evicted, self.resumed),
             None => {
-                self.middle = plus_if(begins, self.middle);
-                let own = if begins { 0 } else { octets };
+                self.middle = plus_if(middle, self.middle);
+                let own = if middle { 0 } else { octets };
                 self.probed = self.probed.saturating_add(own);
             }
         }
+    }
+
+    // Makes this era, where one begins, the last one of a four-tuple.
+    fn begin(&mut self, key: FlowKey, begun: Option<u32>) -> Result<(), NoMemory>
+        ensures { OnOk result (plain_tuples self.new ≡ spec.with_begun key begun (plain_tuples self.old)) }
+    {
+        if let Some(era) = begun {
+            self.eras.insert(key, era)?;
+        }
+        Ok(())
     }
 
     // Returns the last era of a four-tuple.
@@ -128,12 +94,19 @@ impl Tuples {
     }
 }
 
+// Returns whether a segment begins an era without SYN.
+fn is_middle(entry: &Entry, marks: TcpMarks) -> bool
+    ensures { result ≡ spec.is_middle (plain entry.now) marks }
+{
+    entry.begun.is_some() && !marks.flags.syn()
+}
+
 // Returns whether a segment is replaced by a probe, is of no era and no RST.
 fn is_probed(entry: &Entry, marks: TcpMarks) -> bool
     ensures { result ≡ spec.is_probed (plain entry.now) marks }
 {
     let named = names(entry.rules.as_slice(), Rule::CProbe);
-    named && entry.era.is_none() && !marks.flags.rst()
+    named && entry.begun.is_none() && entry.era.is_none() && !marks.flags.rst()
 }
 
 // Returns the four-tuple of a segment.

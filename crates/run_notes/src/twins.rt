@@ -57,7 +57,9 @@ impl Twins {
     pub(crate) fn pass(&mut self)
         ensures { plain_twins self.new ≡ spec.with_other (plain_twins self.old) }
     {
-        self.shift();
+        mem::swap(&mut self.third, &mut self.fourth);
+        mem::swap(&mut self.second, &mut self.third);
+        mem::swap(&mut self.first, &mut self.second);
         self.first.clear();
     }
 
@@ -83,18 +85,6 @@ impl Twins {
         let fourth = is_twin(octets, self.fourth.as_slice());
         first || second || third || fourth
     }
-
-    // Makes the third the fourth, and so on; what the first holds then is out of date.
-    fn shift(&mut self)
-        ensures counts { (self.new.candidates ≡ self.old.candidates) × (self.new.twice ≡ self.old.twice) }
-        ensures second { self.new.second ≡ self.old.first }
-        ensures third { self.new.third ≡ self.old.second }
-        ensures fourth { self.new.fourth ≡ self.old.third }
-    {
-        mem::swap(&mut self.third, &mut self.fourth);
-        mem::swap(&mut self.second, &mut self.third);
-        mem::swap(&mut self.first, &mut self.second);
-    }
 }
 
 // Returns whether a packet can be told from the next one of its sender.
@@ -108,11 +98,15 @@ fn is_candidate(flow: Flow) -> bool
     known && flow.identification != 0 && !is_fragment(flow)
 }
 
-// Returns whether two packets are equal but for the time to live and the header checksum.
+// Returns whether two packets are equal but for the time to live and the header checksum. The low
+// octet of the identification tells most packets apart.
 fn is_twin(a: &[u8], b: &[u8]) -> bool
     ensures { result ≡ spec.is_twin a.now b.now }
 {
-    behind(a) == behind(b) && octet_at(a, 9) == octet_at(b, 9) && front(a) == front(b)
+    octet_at(a, 5) == octet_at(b, 5)
+        && octet_at(a, 9) == octet_at(b, 9)
+        && front(a) == front(b)
+        && behind(a) == behind(b)
 }
 
 // Returns the octets before the time to live.

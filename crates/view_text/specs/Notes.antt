@@ -1,7 +1,7 @@
 -- What is said of a note (this project's profile): its name, its counts, and one sentence that says what to do.
 use Rattle.std.specs.Prelude.{ℕ, ◌==◌, ◌&&◌, List, [], ◌∷◌, ◌++◌, map, codes, if◌then◌else◌}
 use Rattle.run_notes.specs.declared.by_side.BySide.{BySide}
-use Rattle.run_notes.specs.declared.list.Full.{Full}
+use Rattle.run_notes.specs.declared.kinds.Full.{Full}
 use Rattle.run_notes.specs.declared.list.Note.{Note}
 use Rattle.run_notes.specs.declared.list.Note.TheVariants as notes
 use Rattle.view_text.specs.Fields.{PlainField, PlainPart, hidden, number, one, shown, word}

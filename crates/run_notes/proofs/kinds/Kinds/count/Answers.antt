@@ -10,5 +10,5 @@ returns-else-not-is_empty c =
     let rules = c.args.line.entry.now.rules.items in
     let none : rules ≡ [] = nil_from_length rules (equal_zero (length rules) c.if-not-is_empty.ensures) in
     ap (λ answering. record c.args.self.now { answering = answering })
-    (c.add_if.ensures ∙ ap (λ test. with_one_if test c.args.line.entry.now.side c.args.self.now.answering) c.is_answering_line-answering.ensures)
+    (c.add_if.ensures ∙ ap (λ test. with_one_if test c.args.line.entry.now.side c.args.self.now.answering) c.is_answering-answering.ensures)
     ∙ sym (unruled (plain_line c.args.line) c.args.flow c.args.self.now none)
