@@ -20,7 +20,7 @@ use Rattle.capture_input.specs.Inputs.{BeginsWith, FailsBehindHead, FailsInHead,
 use Rattle.capture_input.specs.declared.fault.InputFault.{InputFault}
 use Rattle.capture_input.proofs.Inputs.{accepted, fault_no_end, fault_one, go_on, one_kind}
 use Rattle.capture_input.proofs.Stops.{input_has_all}
-use Rattle.run_view.specs.Standing.{BeginsWithFrames, BeginsWithRecords, HasHead, InputFailsBehind, OutputFailsBehind, TookFrames}
+use Rattle.run_view.specs.Sources.{BeginsWithFrames, BeginsWithRecords, HasHead, InputFailsBehind, OutputFailsBehind, TookFrames}
 
 -- ---- the head of the input
 

@@ -1,5 +1,5 @@
 -- Reading the frames of the output, and what is gathered of those of a record.
-use Rattle.std.proofs.Common.{◌≡◌, ◌≢◌, ℕ, List, [], ◌∷◌, length, drop, Option, Some, None, Ok, Err, false, refl, sym, ap, subst, ◌∙◌, inl, inr, arith, ◌+◌, ◌<◌, ◌≤◌, ◌==◌, true, ◌++◌, map, if◌then◌else◌}
+use Rattle.std.proofs.Common.{◌≡◌, ◌≢◌, ℕ, List, [], ◌∷◌, length, drop, Option, Some, None, Ok, Err, false, refl, sym, ap, subst, ◌∙◌, inl, inr, arith, ◌+◌, ◌<◌, ◌==◌, true, ◌++◌, map, if◌then◌else◌}
 use Rattle.std.specs.Prelude.{IfSome}
 use Rattle.edge_io.specs.Faults.{Rose}
 use Rattle.wire_base.specs.declared.address.Link.{Link}
@@ -20,7 +20,9 @@ use Rattle.capture_input.specs.declared.fault.InputFault.TheVariants as faults
 use Rattle.capture_input.specs.Faults.{is_read_fault, of_flaw}
 use Rattle.frame_view.specs.Changes.{plain}
 use Rattle.run_view.specs.SourceStops.{output_head_stop, output_stop}
-use Rattle.run_view.specs.Standing.{OutputAt, OutputFailsBehind, OutputHeadStops, OutputReads, OutputStops, TookFrames, seen_of, Seen}
+use Rattle.edge_io.specs.Seen.{Seen, seen_of}
+use Rattle.run_view.specs.Sources.{OutputFailsBehind, OutputUnread, TookFrames}
+use Rattle.run_view.specs.Standing.{OutputAt, OutputHeadStops, OutputReads, OutputStops}
 use Rattle.run_view.specs.declared.stop.Stop.TheVariants as stops
 use Rattle.run_view.specs.declared.item.Frames.{Frames}
 use Rattle.run_view.specs.declared.item.Gathered.{Gathered}
@@ -30,7 +32,6 @@ use Rattle.run_view.specs.Eras.{plus}
 use Rattle.run_view.specs.Items.{begun_by, changes_at, changes_in, first_flow, flow_at, octets_in, tcp_octets}
 use Rattle.run_view.specs.declared.stop.Stop.{Stop}
 use Rattle.run_view.specs.Steps.{FrameAdded, FrameStops, FramesRead, FramesStop, IsGathered}
-use Rattle.run_view.proofs.Widenings.{rose_within}
 
 -- Reading the frames of the output.
 
@@ -134,7 +135,8 @@ begun_so : (link : Link) (octets : List ℕ) (own : List Packet) (frame : Packet
     → first_flow (length own) (flow_at link frame.octets) (begun_by link octets own) ≡ begun_by link octets (frame ∷ own)
 begun_so link octets [] frame = refl
 begun_so link octets (next ∷ own) frame =
-    let some : (length (next ∷ own) == 0) ≡ false = grind arith in ap (λ b. if b then flow_at link frame.octets else begun_by link octets (next ∷ own)) some
+    let some : (length (next ∷ own) == 0) ≡ false = grind arith in
+    ap (λ b. if b then flow_at link frame.octets else begun_by link octets (next ∷ own)) some
 
 pub gathered_more : (link : Link) (kinds : Kinds) (octets : List ℕ) (own : List Packet) (packet : Packet) (old new : Gathered) (number : ℕ)
     (frame : List ℕ) → length own ≡ number → packet.octets ≡ frame
@@ -175,28 +177,23 @@ read_more frames all left head older own link kinds octets number gathered count
 -- a frame of a record was not read, behind those of it that were
 pub own_stops : (first frames : Frames) (all left : Option (List ℕ)) (head : Head) (older : List Packet) (link : Link) (kinds : Kinds)
     (octets : List ℕ) (number packets : ℕ) (gathered : Gathered)
-    (before mid : ℕ) (now : Seen) (stop : Stop) → frames.count ≡ first.count + number → number < packets → before ≤ mid
+    (before mid : ℕ) (now : Seen) (stop : Stop) → frames.count ≡ first.count + number → number < packets → mid ≡ before
     → FramesRead frames all left head older link kinds octets number gathered
     → ((behind : List Packet) → OutputAt frames.reader head all left behind → FrameStops frames all head behind mid now stop)
     → FramesStop first all head older packets before now stop
-own_stops first frames all left head older link kinds octets number packets gathered before mid now (stops.Frame n) count fewer later read why =
+own_stops first frames all left head older link kinds octets number packets gathered before mid now (stops.Frame n) count fewer kept read why =
     let missing = why (read.own ++ older) read.stands in
     let short : length read.own < packets = omega (arith, read.count, fewer) in
     let place : n ≡ (first.count + length read.own) + 1 = omega (arith, missing.place, count, read.count) in
     record { own = read.own; fewer = short; missing = record { whole = missing.whole; place = place } }
-own_stops first frames all left head older link kinds octets number packets gathered before mid now stops.Memory count fewer later read why = tt
-own_stops first frames all left head older link kinds octets number packets gathered before mid now (stops.Output fault offset) count fewer later read why =
+own_stops first frames all left head older link kinds octets number packets gathered before mid now stops.Memory count fewer kept read why = tt
+own_stops first frames all left head older link kinds octets number packets gathered before mid now (stops.Output fault offset) count fewer kept read
+    why =
     let short : length read.own < packets = omega (arith, read.count, fewer) in
     record { own = read.own; fewer = short; fails = why (read.own ++ older) read.stands }
-own_stops first frames all left head older link kinds octets number packets gathered before mid now stops.Unread count fewer later read why =
-    let unread = why (read.own ++ older) read.stands in
+own_stops first frames all left head older link kinds octets number packets gathered before mid now stops.Unread count fewer kept read why =
+    let U : ℕ → Type 0 = λ n. OutputUnread all head (read.own ++ older) n now in
     let short : length read.own < packets = omega (arith, read.count, fewer) in
-    record {
-      own = read.own;
-      fewer = short;
-      unread =
-          record { rose = rose_within before mid now.faults now.faults later (omega arith) unread.rose; left = unread.left; took = unread.took; part = unread.part };
-    }
-own_stops first frames all left head older link kinds octets number packets gathered before mid now (stops.Input fault offset) count fewer later read why = absurd (why (read.own ++ older) read.stands)
-own_stops first frames all left head older link kinds octets number packets gathered before mid now _ count fewer later read why =
+    record { own = read.own; fewer = short; unread = subst U kept (why (read.own ++ older) read.stands) }
+own_stops first frames all left head older link kinds octets number packets gathered before mid now _ count fewer kept read why =
     absurd (why (read.own ++ older) read.stands)

@@ -15,7 +15,8 @@ use Rattle.run_view.specs.declared.stop.Stop.TheVariants as stops
 use Rattle.run_view.specs.declared.line.Lines.{Lines}
 use Rattle.run_view.specs.Ahead.{left_in}
 use Rattle.run_view.specs.Causes.{Sources, WhyBefore}
-use Rattle.run_view.specs.Standing.{HasHead, HaveHeads, InputHeadStops, InputOpened, IsOfOtherLink, OutputAt, OutputHeadStops, TookFrames}
+use Rattle.run_view.specs.Sources.{HasHead, HaveHeads, IsOfOtherLink, TookFrames}
+use Rattle.run_view.specs.Standing.{InputHeadStops, InputOpened, OutputAt, OutputHeadStops}
 use Rattle.run_view.specs.Why.{FirstStops}
 
 -- the first line of the report

@@ -4,6 +4,9 @@ pub mod Amiss
 pub mod Records
 pub mod Tables
 pub mod Frames
+pub mod Counted
+pub mod Shown
+pub mod Taken
 pub mod Going
 pub mod Ending
 pub mod Widenings

@@ -18,7 +18,7 @@ use Rattle.run_view.specs.Causes.{EntriesStop, FaultCounts, FilesStop, IsNoFirst
 use Rattle.run_view.specs.Forms.{heading}
 use Rattle.run_view.specs.Items.{AreItems, Item, Line, end_text, frames_of, lines_of, lines_text, owed_of, packets_of, waits}
 use Rattle.run_view.specs.Laws.{AreOfARun, HasFiles, IsExact, NothingFails, RunsAreViewed, StopsAreOne, ViewedHasNoStop}
-use Rattle.run_view.specs.Standing.{BeginsWithFrames, BeginsWithRecords, HasHead, HaveHeads, IsOfOtherLink, OutputBeginsAmiss, OutputHeadFails, TookFrames}
+use Rattle.run_view.specs.Sources.{BeginsWithFrames, BeginsWithRecords, HasHead, HaveHeads, IsOfOtherLink, OutputBeginsAmiss, OutputHeadFails, TookFrames}
 use Rattle.run_view.specs.Stops.{status_of}
 use Rattle.run_view.specs.Viewed.{Cause, TellsLine, report_of, sources_at}
 use Rattle.run_view.specs.Words.{asked_in}

@@ -16,7 +16,9 @@ use Rattle.capture_input.specs.Laws.{WholeIsInput}
 use Rattle.capture_input.proofs.Stops.{before_interface, block_flawed, not_read, record_flawed, refuses}
 use Rattle.capture_input.specs.Reading.{Behind, asked_in, head_in}
 use Rattle.capture_input.specs.Reads.{GivesPacket, ReachesEnd, Reads, StopsAt, StopsInHead}
-use Rattle.run_view.specs.Standing.{BeginsWithFrames, BeginsWithRecords, InputAt, InputFailsBehind, OutputAt, InputHeadFails, InputHeadStops, InputReads, InputStops, InputUnread, Seen, seen_of}
+use Rattle.edge_io.specs.Seen.{Seen, seen_of}
+use Rattle.run_view.specs.Sources.{BeginsWithFrames, BeginsWithRecords, InputFailsBehind, InputHeadFails, InputUnread}
+use Rattle.run_view.specs.Standing.{InputAt, OutputAt, InputHeadStops, InputReads, InputStops}
 use Rattle.run_view.specs.SourceStops.{input_stop}
 
 -- What a source begins with.

@@ -23,11 +23,11 @@ use Rattle.run_view.specs.SoFar.{IsFresh, SoFar, Whole, ends_of}
 use Rattle.run_view.specs.Standing.{InputAt, InputOpened, OutputAt}
 use Rattle.run_view.specs.Viewed.{ViewedAs}
 use Rattle.run_view.proofs.Ending.{viewed_as}
-use Rattle.run_view.proofs.Whys.{behind_at}
-use Rattle.run_view.proofs.Widenings.{Wider, entries_wider}
+use Rattle.run_view.proofs.Whys.{behind_at, counted_at}
 
 -- the first line was taken through lines of which none was read yet
-pub first_taken : (fresh read kept : Lines) (report left : Option (List ℕ)) (text : List ℕ) → left_in fresh report ≡ report → kept ≡ read → Consumes (left_in fresh report) (left_in read left) text
+pub first_taken : (fresh read kept : Lines) (report left : Option (List ℕ)) (text : List ℕ) → left_in fresh report ≡ report → kept ≡ read
+    → Consumes (left_in fresh report) (left_in read left) text
     → Consumes report (left_in kept left) text
 first_taken fresh read kept report left text none same taken =
     let R : Option (List ℕ) → Type 0 = λ r. Consumes r (left_in read left) text in
@@ -60,22 +60,25 @@ fresh_so_far viewer asked form lines input reader read read_left written written
     }
 
 -- the whole run was viewed as the words ask
-pub viewed_fresh : (viewer : Viewer) (asked : Asked) (form : Form) (lines : Lines) (input : Input) (reader : Reading) (read written printed report behind now : Option (List ℕ)) (answered : ℕ)
+pub viewed_fresh : (viewer : Viewer) (asked : Asked) (form : Form) (lines : Lines) (input : Input) (reader : Reading)
+    (read written printed report behind now : Option (List ℕ)) (answered : ℕ)
     → IsFresh viewer asked form lines input reader → reader.head.link ≡ (head_in input).link → Consumes report behind (heading form)
-    → Whole viewer.asked viewer.form viewer.files.head reader.head (ends_of read written printed) now behind answered → ViewedAs asked read written report printed now answered
+    → Whole viewer.asked viewer.form viewer.files.head reader.head (ends_of read written printed) now behind answered
+    → ViewedAs asked read written report printed now answered
 viewed_fresh viewer asked form lines input reader read written printed report behind now answered fresh same first whole =
     let A : Asked → Type 0 = λ a. Whole a viewer.form viewer.files.head reader.head (ends_of read written printed) now behind answered in
     let V : Form → Type 0 = λ f. Whole asked f viewer.files.head reader.head (ends_of read written printed) now behind answered in
     let L : Head → Type 0 = λ h. reader.head.link ≡ h.link in
-    viewed_as asked form viewer.files.head reader.head read written printed report behind now answered (subst L (sym fresh.head_is) same) first (subst V fresh.form_is (subst A fresh.asked_is whole))
+    viewed_as asked form viewer.files.head reader.head read written printed report behind now answered (subst L (sym fresh.head_is) same) first
+    (subst V fresh.form_is (subst A fresh.asked_is whole))
 
 -- a view stops behind the first line of the report
 pub stops_within : (viewer : Viewer) (asked : Asked) (form : Form) (lines : Lines) (input : Input) (reader : Reading)
     (read written report behind printed printed_now : Option (List ℕ)) (first : FaultCounts) (last : Moment) (wide : FaultCounts) (stop : Stop)
-    → Wider first last wide last → IsFresh viewer asked form lines input reader → reader.head.link ≡ (head_in input).link → Consumes report behind (heading form)
+    → first ≡ wide → IsFresh viewer asked form lines input reader → reader.head.link ≡ (head_in input).link → Consumes report behind (heading form)
     → EntriesStop viewer.asked (sources_of read written behind) viewer.form viewer.files.head reader.head printed printed_now first last stop
     → FilesStop asked (sources_of read written report) printed printed_now wide last stop
-stops_within viewer asked form lines input reader read written report behind printed printed_now first last wide stop wider fresh same taken stops =
+stops_within viewer asked form lines input reader read written report behind printed printed_now first last wide stop kept fresh same taken stops =
     let L : Head → Type 0 = λ h. reader.head.link ≡ h.link in
     inr
     (record {
@@ -85,9 +88,7 @@ stops_within viewer asked form lines input reader read written report behind pri
       behind = behind;
       link_is = subst L (sym fresh.head_is) same;
       first = taken;
-      stops =
-          entries_wider asked (sources_of read written behind) form viewer.files.head reader.head printed printed_now first last wide last stop wider
-          (behind_at fresh.asked_is fresh.form_is refl stops);
+      stops = counted_at kept (behind_at fresh.asked_is fresh.form_is refl stops);
     })
 
 -- nothing was taken
@@ -104,7 +105,8 @@ pub opening_stops : (viewer : Viewer) (asked : Asked) (form : Form) (lines : Lin
     → InputOpened input read read_left → OutputAt reader reader.head written written_left []
     → PrintStops printed printed_now before after (opening asked.print) stop
     → FilesStop asked (sources_of read written report) printed printed_now first last stop
-opening_stops viewer asked form lines input reader read read_left written written_left report behind printed printed_now first last before after stops.Unwritten wider fresh same taken opened at why =
+opening_stops viewer asked form lines input reader read read_left written written_left report behind printed printed_now first last before after
+    stops.Unwritten wider fresh same taken opened at why =
     let L : Head → Type 0 = λ h. reader.head.link ≡ h.link in
     let P : List ℕ → Type 0 = λ t. AppendsPart printed printed_now t in
     let so_far = fresh_so_far viewer asked form lines input reader read read_left written written_left None None fresh opened at tt in
@@ -135,12 +137,8 @@ opening_stops viewer asked form lines input reader read read_left written writte
             more_is = inl refl;
           });
     })
-opening_stops viewer asked form lines input reader read read_left written written_left report behind printed printed_now first last before after stops.Memory wider fresh same taken opened at why =
+opening_stops viewer asked form lines input reader read read_left written written_left report behind printed printed_now first last before after
+    stops.Memory wider fresh same taken opened at why =
     inl (record { why = tt; text = why })
-opening_stops viewer asked form lines input reader read read_left written written_left report behind printed printed_now first last before after stops.Words wider fresh same taken opened at why = absurd why
-opening_stops viewer asked form lines input reader read read_left written written_left report behind printed printed_now first last before after (stops.Record n) wider fresh same taken opened at why = absurd why
-opening_stops viewer asked form lines input reader read read_left written written_left report behind printed printed_now first last before after (stops.Frame n) wider fresh same taken opened at why = absurd why
-opening_stops viewer asked form lines input reader read read_left written written_left report behind printed printed_now first last before after (stops.Input fault offset) wider fresh same taken opened at why = absurd why
-opening_stops viewer asked form lines input reader read read_left written written_left report behind printed printed_now first last before after (stops.Output fault offset) wider fresh same taken opened at why = absurd why
-opening_stops viewer asked form lines input reader read read_left written written_left report behind printed printed_now first last before after stops.Unread wider fresh same taken opened at why = absurd why
-opening_stops viewer asked form lines input reader read read_left written written_left report behind printed printed_now first last before after (stops.Report n) wider fresh same taken opened at why = absurd why
+opening_stops viewer asked form lines input reader read read_left written written_left report behind printed printed_now first last before after _
+    wider fresh same taken opened at why = absurd why

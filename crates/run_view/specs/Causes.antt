@@ -16,7 +16,8 @@ use Rattle.rule_book.specs.declared.last.Last.TheVariants.{End}
 use Rattle.run_view.specs.Forms.{heading, own_frames, version_of}
 use Rattle.run_view.specs.Items.{AreItems, Item, end_text, firsts, frames_of, lines_of, lines_text, owed_of, packets_of, text_by, turn_of, waits}
 use Rattle.run_view.specs.Printed.{AreWholeLines}
-use Rattle.run_view.specs.Standing.{BeginsWithFrames, BeginsWithRecords, HaveHeads, InputFailsBehind, InputHeadFails, InputUnread, OutputBeginsAmiss, OutputFailsBehind, OutputUnread, Seen, seen_of}
+use Rattle.edge_io.specs.Seen.{Seen, seen_of}
+use Rattle.run_view.specs.Sources.{BeginsWithFrames, BeginsWithRecords, HaveHeads, InputFailsBehind, InputHeadFails, InputUnread, OutputBeginsAmiss, OutputFailsBehind, OutputUnread}
 use Rattle.run_view.specs.View.{closing_text, items_text}
 use Rattle.run_view.specs.declared.form.Form.{Form}
 use Rattle.run_view.specs.declared.stop.Stop.{Stop}

@@ -3,9 +3,11 @@
 use Rattle.std.specs.Prelude.{◌≡◌, ℕ, Bool, true, false, List, Option}
 use Rattle.std.specs.Io.KnownBytes.{Consumes}
 use Rattle.pcap_file.specs.declared.head.Head.{Head}
+use Rattle.rule_book.specs.Text.{last_text}
+use Rattle.rule_book.specs.declared.last.Last.TheVariants.{End}
 use Rattle.run_view.specs.Items.{Item, lines_of, lines_text}
 use Rattle.run_view.specs.SoFar.{Ends, SoFar, turn_in}
-use Rattle.run_view.specs.Why.{ToldEnd}
+use Rattle.run_view.specs.declared.told.Turn.{Turn}
 use Rattle.run_view.specs.declared.viewer.Viewer.{Viewer}
 
 -- some items were taken since the first line of the report, which told their lines
@@ -13,6 +15,11 @@ pub record Going (viewer : Viewer) (head : Head) (before now : Ends) (report lef
   pub items : List Item
   pub so_far : SoFar viewer head before now items
   pub told : Consumes report left (lines_text (lines_of items))
+
+-- the last line of a run was taken of the report, where no line of the second engine is wanting
+pub record ToldEnd (turn : Turn) (report left : Option (List ℕ)) : Type 0 where
+  pub first : turn.second ≡ false
+  pub taken : Consumes report left (last_text (End turn.done turn.frames))
 
 -- some items were taken, and then the last line of the report
 pub record HasEnded (viewer : Viewer) (head : Head) (before now : Ends) (report left next : Option (List ℕ)) : Type 0 where

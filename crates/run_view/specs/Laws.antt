@@ -6,7 +6,7 @@ use Rattle.pcap_file.specs.Capture.{IsCapture}
 use Rattle.capture_input.specs.Inputs.{IsInput}
 use Rattle.run_view.specs.Causes.{SourceRose}
 use Rattle.run_view.specs.Items.{Item, AreItems, frames_of, owed_of, packets_of}
-use Rattle.run_view.specs.Standing.{HasHead}
+use Rattle.run_view.specs.Sources.{HasHead}
 use Rattle.run_view.specs.Viewed.{Cause, Moment, Stopped, Viewed, faults_of, report_of}
 use Rattle.run_view.specs.Words.{asked_in}
 use Rattle.run_view.specs.declared.form.Form.{Form}

@@ -5,6 +5,7 @@ pub mod WordsMet
 pub mod Lines
 pub mod Stops
 pub mod SourceStops
+pub mod Sources
 pub mod Standing
 pub mod Forms
 pub mod Eras

@@ -1,23 +1,21 @@
--- How far a view has come (this project's profile). Items are a list with the newest at the head. `read`, `written` and `printed` are what the input and the
--- output had left and what was printed at first, and the same with `_now` what they have at the moment, where they tell it.
-use Rattle.std.specs.Prelude.{◌≡◌, ℕ, ◌≤◌, ◌<◌, ◌^◌, ◌*◌, ◌+◌, Bool, true, List, [], ◌∷◌, ◌++◌, length, string_bytes, Option, None, IfSome, if◌then◌else◌}
+-- How far a view has come (this project's profile). Items are a list with the newest at the head. `read`, `written` and `printed` are what the input and
+-- the output had left and what was printed at first, and the same with `_now` what they have at the moment, where they tell it.
+use Rattle.std.specs.Prelude.{◌≡◌, ℕ, ◌≤◌, ◌<◌, ◌^◌, ◌*◌, ◌+◌, Bool, true, List, [], ◌∷◌, length, string_bytes, Option, if◌then◌else◌}
 use Rattle.std.specs.Io.KnownBytes.{Appends}
 use Rattle.pcap_file.specs.declared.head.Head.{Head}
-use Rattle.pcap_file.specs.Records.{Packet}
-use Rattle.pcap_file.specs.Capture.{IsCapture}
-use Rattle.capture_input.specs.Inputs.{TookAll}
 use Rattle.run_notes.specs.Counts.{plain_counts}
 use Rattle.run_notes.specs.Notes.{notes_of}
 use Rattle.run_notes.specs.declared.list.Note.{Note}
+use Rattle.run_view.specs.Causes.{AreOver, GiveItems, sources_of}
 use Rattle.run_view.specs.Forms.{is_both}
-use Rattle.run_view.specs.Items.{AreItems, Item, Line, by_first, end_text, firsts, frames_of, line_of, lines_of, lines_text, owed_of, packets_of, seconds, time_of, turn_at, waits}
+use Rattle.run_view.specs.Items.{AreItems, Item, Line, by_first, firsts, frames_of, line_of, owed_of, packets_of, seconds, time_of, turn_at, waits}
 use Rattle.run_view.specs.Rows.{table_of}
 use Rattle.run_view.specs.Standing.{InputAt, OutputAt}
 use Rattle.run_view.specs.Printed.{summary_shown}
 use Rattle.run_view.specs.Shows.{due_text}
 use Rattle.run_view.specs.Steps.{Holds, IsReady}
 use Rattle.run_view.specs.Chosen.{has_choice, meets_record, met_of, prints_records}
-use Rattle.run_view.specs.View.{answer, answer_of, behind_summary, closing, noted, summed, first_eras, items_text, newest_text, printed_of, record_text, rules_of, second_eras, sides_of, view_text_of}
+use Rattle.run_view.specs.View.{answer, answer_of, closing, noted, summed, first_eras, items_text, newest_text, printed_of, record_text, rules_of, second_eras, sides_of, view_text_of}
 use Rattle.view_text.specs.declared.view.Format.{Format}
 use Rattle.run_view.specs.declared.form.Form.{Form}
 use Rattle.run_view.specs.declared.line.Lines.{Lines}
@@ -51,7 +49,8 @@ ends_of read written printed = record { read = read; written = written; printed 
 -- if lines of the second engine are still to come, the record that is held is that of the newest line
 abbrev pub HoldsNewest : (viewer : Viewer) → List Item → Type 0
 HoldsNewest viewer [] = Unit {0}
-HoldsNewest viewer (newest ∷ older) = waits viewer.owed ≡ true → Holds newest.packet.octets (time_of viewer.files.head newest.packet) (by_first newest) viewer.held
+HoldsNewest viewer (newest ∷ older) = waits viewer.owed ≡ true
+    → Holds newest.packet.octets (time_of viewer.files.head newest.packet) (by_first newest) viewer.held
 
 -- of a record of which lines are still to come, what its lines meet and their text are held; the text only where the conditions on the record are met
 pub record HoldsLines (printing : Printing) (asked : Asked) (form : Form) (head : Head) (items : List Item) : Type 0 where
@@ -115,11 +114,6 @@ pub record Taken (viewer : Viewer) (head : Head) (before now : Ends) (items : Li
   pub so_far : (printed : Option (List ℕ)) → Appends now.printed printed (newest_text viewer.asked viewer.form viewer.files.head (item ∷ items))
       → SoFar viewer head before (ends_of now.read now.written printed) (item ∷ items)
 
--- the input and the output are captures of these records and frames
-pub record AreWhole (head written_head : Head) (read written : Option (List ℕ)) (records frames : List Packet) : Type 0 where
-  pub records_are : TookAll None read head records
-  pub frames_are : IfSome written (λ octets. IsCapture octets written_head frames)
-
 -- a view before the first record
 pub record IsFresh (viewer : Viewer) (asked : Asked) (form : Form) (lines : Lines) (input : Input) (reader : Reading) : Type 0 where
   pub asked_is : viewer.asked ≡ asked
@@ -144,14 +138,16 @@ notes_in tally = notes_of (plain_counts tally.notes)
 abbrev pub summed_shown : Format → Viewer → List ℕ
 summed_shown format viewer =
     summed format (has_choice viewer.asked) viewer.printing.records
-    (summary_shown (is_both viewer.form) viewer.files.count viewer.files.frames.count viewer.tally) (table_of viewer.tally.eras) (table_of viewer.tally.second_eras)
+    (summary_shown (is_both viewer.form) viewer.files.count viewer.files.frames.count viewer.tally) (table_of viewer.tally.eras)
+    (table_of viewer.tally.second_eras)
     (notes_in viewer.tally)
 
 -- what is printed at the end
 abbrev pub closing_shown : Viewer → List ℕ
 closing_shown viewer =
     closing viewer.asked.print (has_choice viewer.asked) viewer.printing.records
-    (summary_shown (is_both viewer.form) viewer.files.count viewer.files.frames.count viewer.tally) (table_of viewer.tally.eras) (table_of viewer.tally.second_eras)
+    (summary_shown (is_both viewer.form) viewer.files.count viewer.files.frames.count viewer.tally) (table_of viewer.tally.eras)
+    (table_of viewer.tally.second_eras)
     (notes_in viewer.tally)
 
 -- the end was printed, and this is the status
@@ -159,12 +155,21 @@ pub record Closed (viewer : Viewer) (old now : Option (List ℕ)) (answered : �
   pub prints : Appends old now (closing_shown viewer)
   pub status : answered ≡ answer_of viewer.asked.print (notes_in viewer.tally)
 
+-- the view reads on, and prints at the end what it would have printed before
+pub record Closes (viewer last : Viewer) : Type 0 where
+  pub asked : last.asked ≡ viewer.asked
+  pub form : last.form ≡ viewer.form
+  pub tally : last.tally ≡ viewer.tally
+  pub printing : last.printing ≡ viewer.printing
+  pub count : last.files.count ≡ viewer.files.count
+  pub frame_count : last.files.frames.count ≡ viewer.files.frames.count
+
 -- the three files were read to their end, and all was printed; this is the status
-pub record Whole (asked : Asked) (form : Form) (head written_head : Head) (before : Ends) (printed_now report : Option (List ℕ)) (answered : ℕ) : Type 0 where
-  pub items : List Item
-  pub are : AreItems form items
-  pub none_owed : owed_of items ≡ 0
-  pub whole : AreWhole head written_head before.read before.written (packets_of items) (frames_of items)
-  pub told : IfSome report (λ octets. octets ≡ lines_text (lines_of items) ++ end_text items)
-  pub text : Appends before.printed printed_now (view_text_of asked form head items)
-  pub status : answered ≡ answer asked head items
+pub record Whole (asked : Asked) (form : Form) (head written : Head) (before : Ends) (printed_now report : Option (List ℕ)) (answered : ℕ) : Type 0
+  where
+    pub items : List Item
+    pub left : Option (List ℕ)
+    pub give : GiveItems (sources_of before.read before.written report) form head written items left
+    pub over : AreOver (sources_of before.read before.written report) head written items left
+    pub text : Appends before.printed printed_now (view_text_of asked form head items)
+    pub status : answered ≡ answer asked head items

@@ -1,17 +1,18 @@
 -- What reading a record and its frames gives (this project's profile). Records and frames are lists with the newest at the head.
-use Rattle.std.specs.Prelude.{◌≡◌, ◌⊎◌, ◌^◌, ℕ, ◌+◌, ◌<◌, ◌||◌, Bool, true, List, ◌∷◌, ◌++◌, length, map, Option, None, is_some, IfSome}
+use Rattle.std.specs.Prelude.{◌≡◌, ℕ, ◌+◌, ◌<◌, ◌||◌, Bool, true, List, ◌∷◌, ◌++◌, length, map, Option, is_some, IfSome}
 use Rattle.wire_base.specs.declared.address.Link.{Link}
 use Rattle.pcap_file.specs.declared.head.Head.{Head}
 use Rattle.pcap_file.specs.Records.{Packet}
 use Rattle.pcap_file.specs.Capture.{IsCapture}
-use Rattle.capture_input.specs.Inputs.{TookAll}
 use Rattle.capture_input.specs.Reading.{is_open_in}
 use Rattle.capture_input.specs.declared.fault.InputFault.{InputFault}
 use Rattle.rule_book.specs.Entries.{PlainEntry}
 use Rattle.frame_view.specs.Changes.{plain}
 use Rattle.run_view.specs.Judged.{judged_by}
 use Rattle.run_view.specs.Items.{begun_by, changes_in, octets_in}
-use Rattle.run_view.specs.Standing.{BeginsWithRecords, InputFailsBehind, InputUnread, IsBehind, OutputAt, OutputFailsBehind, OutputStops, OutputUnread, Seen}
+use Rattle.edge_io.specs.Seen.{Seen}
+use Rattle.run_view.specs.Sources.{OutputFailsBehind, OutputUnread}
+use Rattle.run_view.specs.Standing.{IsBehind, OutputAt, OutputStops}
 use Rattle.run_view.specs.declared.item.Files.{Files}
 use Rattle.run_view.specs.declared.item.Frames.{Frames}
 use Rattle.run_view.specs.declared.item.Gathered.{Gathered}
@@ -30,18 +31,6 @@ pub record IsReady (files : Files) : Type 0 where
   pub goes_on : is_open_in files.input ≡ true
   pub behind : IsBehind files.input
   pub frames : MayRead files.frames
-
--- a record and so many frames may be read
-pub record HasRoom (files : Files) : Type 0 where
-  pub ready : IsReady files
-  pub few : files.count < 2 ^ 33
-  pub few_frames : files.frames.count < 2 ^ 63
-
--- nothing was read
-pub record StayedAt (old new : Files) : Type 0 where
-  pub head : new.head ≡ old.head
-  pub count : new.count ≡ old.count
-  pub frame_count : new.frames.count ≡ old.frames.count
 
 -- the line is of an era: of this one of the first engine, or of one that it belongs to or begins
 abbrev pub is_of_era : (first : Option ℕ) → PlainEntry → Bool
@@ -115,44 +104,3 @@ FramesStop frames all head older packets before now stops.Memory = Unit {0}
 FramesStop frames all head older packets before now (stops.Output fault offset) = OwnFails all head older packets fault offset
 FramesStop frames all head older packets before now stops.Unread = OwnUnread all head older packets before now
 FramesStop frames all head older packets before now _ = ⊥
-
--- the input is a capture of these records, and this is the number of the next
-pub record RecordMissing (files : Files) (read : Option (List ℕ)) (records : List Packet) (number : ℕ) : Type 0 where
-  pub whole : TookAll None read files.head records
-  pub place : number ≡ files.count + 1
-
--- the record was read behind these, and a frame of it is missing
-pub record FrameMissing (files : Files) (read written : Option (List ℕ)) (head : Head) (records frames : List Packet)
-    (packets number : ℕ) : Type 0 where
-  pub packet : Packet
-  pub record_is : BeginsWithRecords read files.head (packet ∷ records)
-  pub missing : OwnMissing files.frames.count written head frames packets number
-
--- the record was read behind these, and the output has a fault in a frame of it
-pub record FrameFails (files : Files) (read written : Option (List ℕ)) (head : Head) (records frames : List Packet) (packets : ℕ) (fault : InputFault)
-    (offset : ℕ) : Type 0 where
-  pub packet : Packet
-  pub record_is : BeginsWithRecords read files.head (packet ∷ records)
-  pub fails : OwnFails written head frames packets fault offset
-
--- the record was read behind these, and the output failed in a frame of it
-pub record FrameUnread (files : Files) (read written : Option (List ℕ)) (head : Head) (records frames : List Packet) (packets before : ℕ)
-    (now : Seen) : Type 0 where
-  pub packet : Packet
-  pub record_is : BeginsWithRecords read files.head (packet ∷ records)
-  pub own : OwnUnread written head frames packets before now
-
--- why a record and its frames were not read; `rb` and `wb` count the faults of input and output before, `rn` and `wn` are the two now
-abbrev pub ItemStops : (files : Files) (read written : Option (List ℕ)) (head : Head) (records frames : List Packet)
-    (packets rb : ℕ) (rn : Seen) (wb : ℕ) (wn : Seen) → Stop → Type 0
-ItemStops files read written head records frames packets rb rn wb wn (stops.Record number) = RecordMissing files read records number
-ItemStops files read written head records frames packets rb rn wb wn (stops.Frame number) =
-    FrameMissing files read written head records frames packets number
-ItemStops files read written head records frames packets rb rn wb wn stops.Memory = Unit {0}
-ItemStops files read written head records frames packets rb rn wb wn (stops.Input fault offset) =
-    InputFailsBehind read files.head records fault offset
-ItemStops files read written head records frames packets rb rn wb wn (stops.Output fault offset) =
-    FrameFails files read written head records frames packets fault offset
-ItemStops files read written head records frames packets rb rn wb wn stops.Unread =
-    InputUnread read files.head records rb rn ⊎ FrameUnread files read written head records frames packets wb wn
-ItemStops files read written head records frames packets rb rn wb wn _ = ⊥

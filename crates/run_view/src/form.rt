@@ -1,6 +1,7 @@
 //! The form of a report.
-ghost use Rattle.std.specs.Prelude.{◌≡◌, ◌≤◌, IfErr, IfOk, OnOk};
+ghost use Rattle.std.specs.Prelude.{◌≡◌, IfErr, IfOk};
 ghost use Rattle.std.specs.Io.KnownBytes.{Consumes};
+ghost use Rattle.edge_io.specs.Faults.{RisesAtErr};
 ghost use Rattle.run_view.specs.Ahead.{left_in};
 ghost use Rattle.run_view.specs.Forms as spec;
 ghost use Rattle.run_view.specs.Why.{FirstStops};
@@ -25,8 +26,7 @@ pub(crate) fn read_form<R: Source>(lines: &mut Lines, report: &mut R) -> Result<
     ensures stops { IfErr result (FirstStops (left_in lines.old (R.left report.old)) (R.fault_count report.old) (R.fault_count report.new)) }
     ensures first { IfOk result (λ form. Consumes (left_in lines.old (R.left report.old)) (left_in lines.new (R.left report.new))
         (spec.heading form)) }
-    ensures later { R.fault_count report.old ≤ R.fault_count report.new }
-    ensures kept { OnOk result (R.fault_count report.new ≡ R.fault_count report.old) }
+    ensures faults { RisesAtErr (R.fault_count report.old) (R.fault_count report.new) result }
 {
     let Ok(()) = lines.next(report) else {
         return Err(Stop::Unread);

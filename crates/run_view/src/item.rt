@@ -1,5 +1,5 @@
 //! A record of the input with the frames of the output that were written for it.
-ghost use Rattle.std.specs.Prelude.{◌≡◌, ◌+◌, ◌≤◌, ◌<◌, ◌^◌, ◌++◌, ◌∷◌, [], ℕ, List, length, true, IfErr, OnOk, if◌then◌else◌};
+ghost use Rattle.std.specs.Prelude.{◌≡◌, ◌+◌, ◌<◌, ◌^◌, ◌++◌, ◌∷◌, [], ℕ, List, length, true, IfErr, OnOk, if◌then◌else◌};
 ghost use Rattle.std.specs.declared.option.Option.{Option};
 ghost use Rattle.pcap_file.specs.Records.{Packet};
 ghost use Rattle.pcap_file.specs.declared.head.Head.{Head};
@@ -7,7 +7,9 @@ ghost use Rattle.rule_book.specs.Entries.{plain};
 ghost use Rattle.run_view.specs.Eras.{plus};
 ghost use Rattle.run_view.specs.Items as spec;
 ghost use Rattle.run_view.specs.Items.{waits};
-ghost use Rattle.run_view.specs.Standing.{OutputAt, seen_of};
+ghost use Rattle.edge_io.specs.Faults.{RisesAtErr};
+ghost use Rattle.edge_io.specs.Seen.{seen_of};
+ghost use Rattle.run_view.specs.Standing.{OutputAt};
 ghost use Rattle.run_view.specs.Steps.{FrameAdded, FrameStops, FramesRead, FramesStop, Holds, IsGathered, MayRead};
 
 use crate::Stop;
@@ -143,8 +145,7 @@ pub(crate) fn gather<O: Source>(
     ensures stops { IfErr result (λ stop. (all : Option (List ℕ)) (head : Head) (older : List Packet) →
         OutputAt frames.old.reader head all (O.left output.old) older →
         FramesStop frames.old all head older packets (O.fault_count output.old) (seen_of (O.left output.new) (O.fault_count output.new)) stop) }
-    ensures later { O.fault_count output.old ≤ O.fault_count output.new }
-    ensures kept { OnOk result (O.fault_count output.new ≡ O.fault_count output.old) }
+    ensures faults { RisesAtErr (O.fault_count output.old) (O.fault_count output.new) result }
 {
     for number in 0..packets {
         add_frame(alloc, original, number, gathered, frames, output)?;
@@ -185,8 +186,7 @@ fn add_frame<O: Source>(
     ensures stops { IfErr result (λ stop. (all : Option (List ℕ)) (head : Head) (behind : List Packet) →
         OutputAt frames.old.reader head all (O.left output.old) behind →
         FrameStops frames.old all head behind (O.fault_count output.old) (seen_of (O.left output.new) (O.fault_count output.new)) stop) }
-    ensures later { O.fault_count output.old ≤ O.fault_count output.new }
-    ensures kept { OnOk result (O.fault_count output.new ≡ O.fault_count output.old) }
+    ensures faults { RisesAtErr (O.fault_count output.old) (O.fault_count output.new) result }
 {
     let Some(frame) = next_frame(&mut frames.reader, output, &mut frames.buffer[..])? else {
         return Err(Stop::Frame(frames.count + 1));

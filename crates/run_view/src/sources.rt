@@ -1,13 +1,13 @@
 //! The records of the input and the frames of the output, read one by one.
-ghost use Rattle.std.specs.Prelude.{◌≡◌, ◌+◌, ◌≤◌, ℕ, true, List, [], length, IfErr, IfOk, IfSome, OnOk, IsSome, IsSomeAnd, vec_len};
+ghost use Rattle.std.specs.Prelude.{◌≡◌, ◌≤◌, ℕ, true, List, [], length, IfErr, IfOk, IfSome};
 ghost use Rattle.std.specs.declared.option.Option.{Option};
-ghost use Rattle.edge_io.specs.Faults.{Rose};
-ghost use Rattle.pcap_file.specs.Reads.{IfRecord};
+ghost use Rattle.edge_io.specs.Faults.{RisesAtErr};
 ghost use Rattle.pcap_file.specs.Records.{Packet};
 ghost use Rattle.pcap_file.specs.declared.head.Head.{Head};
 ghost use Rattle.capture_input.specs.Reading.{is_open_in};
 ghost use Rattle.run_view.specs.SourceStops as spec;
-ghost use Rattle.run_view.specs.Standing.{InputAt, InputOpened, IsBehind, InputHeadStops, InputReads, InputStops, OutputAt, OutputHeadStops, OutputReads, OutputStops, seen_of};
+ghost use Rattle.edge_io.specs.Seen.{seen_of};
+ghost use Rattle.run_view.specs.Standing.{InputAt, InputOpened, IsBehind, InputHeadStops, InputReads, InputStops, OutputAt, OutputHeadStops, OutputReads, OutputStops};
 ghost use Rattle.wire_base.specs.declared.limits.TheConstants.{MAX_CAPTURED};
 
 use crate::Stop;
@@ -21,8 +21,7 @@ use wire_base::Link;
 pub(crate) fn open_input<I: Source>(source: &mut I) -> Result<Input, Stop>
     ensures opened { IfOk result (λ input. InputOpened input (I.left source.old) (I.left source.new)) }
     ensures stops { IfErr result (λ stop. InputHeadStops (I.left source.old) (I.fault_count source.old) (I.fault_count source.new) stop) }
-    ensures later { I.fault_count source.old ≤ I.fault_count source.new }
-    ensures kept { OnOk result (I.fault_count source.new ≡ I.fault_count source.old) }
+    ensures faults { RisesAtErr (I.fault_count source.old) (I.fault_count source.new) result }
 {
     match Input::open(None, source) {
         Ok(input) => Ok(input),
@@ -47,8 +46,7 @@ pub(crate) fn next_record<'a, I: Source>(
     ensures stops { IfErr result (λ stop. (head : Head) (all : Option (List ℕ)) (packets : List Packet) →
         InputAt input.old head all (I.left source.old) packets →
         InputStops all head packets (I.fault_count source.old) (seen_of (I.left source.new) (I.fault_count source.new)) stop) }
-    ensures later { I.fault_count source.old ≤ I.fault_count source.new }
-    ensures kept { OnOk result (I.fault_count source.new ≡ I.fault_count source.old) }
+    ensures faults { RisesAtErr (I.fault_count source.old) (I.fault_count source.new) result }
 {
     whole_is_input();
     match input.next(source, buffer) {
@@ -79,8 +77,7 @@ pub(crate) fn open_output<O: Source>(link: Link, source: &mut O) -> Result<Reade
     ensures goes_on { IfOk result (λ reader. reader.is_open ≡ true) }
     ensures same { IfOk result (λ reader. reader.head.link ≡ link) }
     ensures stops { IfErr result (OutputHeadStops link (O.left source.old) (O.fault_count source.old) (O.fault_count source.new)) }
-    ensures later { O.fault_count source.old ≤ O.fault_count source.new }
-    ensures kept { OnOk result (O.fault_count source.new ≡ O.fault_count source.old) }
+    ensures faults { RisesAtErr (O.fault_count source.old) (O.fault_count source.new) result }
 {
     match read_head(source) {
         Ok(head) => {
@@ -110,8 +107,7 @@ pub(crate) fn next_frame<'a, O: Source>(
     ensures stops { IfErr result (λ stop. (head : Head) (all : Option (List ℕ)) (frames : List Packet) →
         OutputAt reader.old head all (O.left source.old) frames →
         OutputStops all head frames (O.fault_count source.old) (seen_of (O.left source.new) (O.fault_count source.new)) stop) }
-    ensures later { O.fault_count source.old ≤ O.fault_count source.new }
-    ensures kept { OnOk result (O.fault_count source.new ≡ O.fault_count source.old) }
+    ensures faults { RisesAtErr (O.fault_count source.old) (O.fault_count source.new) result }
 {
     match reader.next(source, buffer) {
         Ok(given) => Ok(given),

@@ -1,18 +1,18 @@
 //! Takes the lines of the report, each with its record and its frames.
-ghost use Rattle.std.specs.Prelude.{◌≡◌, ◌+◌, ◌<◌, ◌≤◌, ℕ, List, true, false, IfErr, IfOk, None, OnOk};
+ghost use Rattle.std.specs.Prelude.{◌≡◌, ◌+◌, ◌<◌, ℕ, List, true, false, IfErr, IfOk, None, OnOk};
 ghost use Rattle.std.specs.declared.option.Option.{Option};
-ghost use Rattle.pcap_file.specs.Records.{Packet};
 ghost use Rattle.pcap_file.specs.declared.head.Head.{Head};
 ghost use Rattle.rule_book.specs.Entries.{plain};
 ghost use Rattle.rule_book.specs.Reports.{IsEntryOf};
 ghost use Rattle.run_view.specs.Ahead.{left_in};
 ghost use Rattle.run_view.specs.Forms.{version_of as version_of_form};
-ghost use Rattle.run_view.specs.Items.{Item, line_by, waits};
+ghost use Rattle.run_view.specs.Items.{Item, line_by};
 ghost use Rattle.run_view.specs.SoFar.{Ends, MayTake, SoFar, Taken, WentOn, WentOnBy, ends_of, lines_in, turn_in};
-ghost use Rattle.run_view.specs.Causes.{EntriesStop, counts_of, frames_by, moment_of, sources_of};
+ghost use Rattle.run_view.specs.Causes.{EntriesStop, counts_of, moment_of, sources_of};
 ghost use Rattle.run_view.specs.Going.{Going, IsSameRun, StepsTo};
 ghost use Rattle.run_view.specs.Why.{LineStops};
-ghost use Rattle.run_view.specs.Standing.{InputAt, OutputAt, Seen, seen_of};
+ghost use Rattle.edge_io.specs.Faults.{RisesAtErr};
+ghost use Rattle.edge_io.specs.Seen.{Seen, seen_of};
 
 use crate::Stop;
 use crate::form::{answers, is_both, own_frames, version_of};
@@ -56,14 +56,10 @@ pub(crate) fn step<I: Source, O: Source, R: Source, K: Sink>(
         (counts_of (I.fault_count input.old) (O.fault_count output.old) (R.fault_count report.old) (K.fault_count out.old))
         (moment_of (I.left input.new) (I.fault_count input.new) (O.left output.new) (O.fault_count output.new)
         (R.left report.new) (R.fault_count report.new) (K.held out.new) (K.fault_count out.new)) stop) }
-    ensures input_later { I.fault_count input.old ≤ I.fault_count input.new }
-    ensures input_kept { OnOk result (I.fault_count input.new ≡ I.fault_count input.old) }
-    ensures output_later { O.fault_count output.old ≤ O.fault_count output.new }
-    ensures output_kept { OnOk result (O.fault_count output.new ≡ O.fault_count output.old) }
-    ensures report_later { R.fault_count report.old ≤ R.fault_count report.new }
-    ensures report_kept { OnOk result (R.fault_count report.new ≡ R.fault_count report.old) }
-    ensures out_later { K.fault_count out.old ≤ K.fault_count out.new }
-    ensures out_kept { OnOk result (K.fault_count out.new ≡ K.fault_count out.old) }
+    ensures input_faults { RisesAtErr (I.fault_count input.old) (I.fault_count input.new) result }
+    ensures output_faults { RisesAtErr (O.fault_count output.old) (O.fault_count output.new) result }
+    ensures report_faults { RisesAtErr (R.fault_count report.old) (R.fault_count report.new) result }
+    ensures out_faults { RisesAtErr (K.fault_count out.old) (K.fault_count out.new) result }
 {
     let number = viewer.files.count + viewer.second_count + 2;
     let Ok(()) = viewer.lines.next(report) else {
@@ -122,17 +118,17 @@ fn take<I: Source, O: Source>(
         Taken viewer.new head before (ends_of (I.left input.new) (O.left output.new) printed) items
         (line_by (turn_in viewer.old).second (plain entry.now))) }
     ensures went { OnOk result (WentOn viewer.old viewer.new) }
-    ensures stops { IfErr result (λ stop. (read written : Option (List ℕ)) (head : Head) (records frames : List Packet) →
-        InputAt viewer.old.files.input viewer.old.files.head read (I.left input.old) records →
-        OutputAt viewer.old.files.frames.reader head written (O.left output.old) frames →
-        LineStops (waits viewer.old.owed) viewer.old.files read written head records frames
-        (frames_by (waits viewer.old.owed) viewer.old.form (plain entry.now))
-        (I.fault_count input.old) (seen_of (I.left input.new) (I.fault_count input.new))
-        (O.fault_count output.old) (seen_of (O.left output.new) (O.fault_count output.new)) stop) }
-    ensures input_later { I.fault_count input.old ≤ I.fault_count input.new }
-    ensures input_kept { OnOk result (I.fault_count input.new ≡ I.fault_count input.old) }
-    ensures output_later { O.fault_count output.old ≤ O.fault_count output.new }
-    ensures output_kept { OnOk result (O.fault_count output.new ≡ O.fault_count output.old) }
+    ensures stops { IfErr result (λ stop. (report out : ℕ) (report_now out_now : Seen) →
+        LineStops viewer.old (plain entry.now) (I.left input.old) (O.left output.old)
+        (counts_of (I.fault_count input.old) (O.fault_count output.old) report out)
+        (record {
+          input = seen_of (I.left input.new) (I.fault_count input.new);
+          output = seen_of (O.left output.new) (O.fault_count output.new);
+          report = report_now;
+          out = out_now;
+        }) stop) }
+    ensures input_faults { RisesAtErr (I.fault_count input.old) (I.fault_count input.new) result }
+    ensures output_faults { RisesAtErr (O.fault_count output.old) (O.fault_count output.new) result }
 {
     if viewer.owed == 0 {
         take_first(alloc, viewer, entry, input, output)
@@ -156,16 +152,17 @@ fn take_first<I: Source, O: Source>(
         IsEntryOf (version_of_form viewer.old.form) (plain entry.now) → entry.now.number ≡ viewer.old.files.count + 1 →
         Taken viewer.new head before (ends_of (I.left input.new) (O.left output.new) printed) items (line_by false (plain entry.now))) }
     ensures went { OnOk result (WentOnBy false viewer.old viewer.new) }
-    ensures stops { IfErr result (λ stop. (read written : Option (List ℕ)) (head : Head) (records frames : List Packet) →
-        InputAt viewer.old.files.input viewer.old.files.head read (I.left input.old) records →
-        OutputAt viewer.old.files.frames.reader head written (O.left output.old) frames →
-        LineStops false viewer.old.files read written head records frames (frames_by false viewer.old.form (plain entry.now))
-        (I.fault_count input.old) (seen_of (I.left input.new) (I.fault_count input.new))
-        (O.fault_count output.old) (seen_of (O.left output.new) (O.fault_count output.new)) stop) }
-    ensures input_later { I.fault_count input.old ≤ I.fault_count input.new }
-    ensures input_kept { OnOk result (I.fault_count input.new ≡ I.fault_count input.old) }
-    ensures output_later { O.fault_count output.old ≤ O.fault_count output.new }
-    ensures output_kept { OnOk result (O.fault_count output.new ≡ O.fault_count output.old) }
+    ensures stops { IfErr result (λ stop. (report out : ℕ) (report_now out_now : Seen) →
+        LineStops viewer.old (plain entry.now) (I.left input.old) (O.left output.old)
+        (counts_of (I.fault_count input.old) (O.fault_count output.old) report out)
+        (record {
+          input = seen_of (I.left input.new) (I.fault_count input.new);
+          output = seen_of (O.left output.new) (O.fault_count output.new);
+          report = report_now;
+          out = out_now;
+        }) stop) }
+    ensures input_faults { RisesAtErr (I.fault_count input.old) (I.fault_count input.new) result }
+    ensures output_faults { RisesAtErr (O.fault_count output.old) (O.fault_count output.new) result }
 {
     let files = &mut viewer.files;
     let Some(record) = next_record(&mut files.input, input, &mut files.buffer[..])? else {
@@ -233,12 +230,15 @@ fn take_second<O: Source>(
         IsEntryOf (version_of_form viewer.old.form) (plain entry.now) → entry.now.number ≡ viewer.old.second_count + 1 →
         Taken viewer.new head before (ends_of read (O.left output.new) printed) items (line_by true (plain entry.now))) }
     ensures went { OnOk result (WentOnBy true viewer.old viewer.new) }
-    ensures stops { IfErr result (λ stop. (read written : Option (List ℕ)) (head : Head) (records frames : List Packet) (n : ℕ) (input : Seen) →
-        OutputAt viewer.old.files.frames.reader head written (O.left output.old) frames →
-        LineStops true viewer.old.files read written head records frames (frames_by true viewer.old.form (plain entry.now))
-        n input (O.fault_count output.old) (seen_of (O.left output.new) (O.fault_count output.new)) stop) }
-    ensures output_later { O.fault_count output.old ≤ O.fault_count output.new }
-    ensures output_kept { OnOk result (O.fault_count output.new ≡ O.fault_count output.old) }
+    ensures stops { IfErr result (λ stop. (read : Option (List ℕ)) (input report out : ℕ) (input_now report_now out_now : Seen) →
+        LineStops viewer.old (plain entry.now) read (O.left output.old) (counts_of input (O.fault_count output.old) report out)
+        (record {
+          input = input_now;
+          output = seen_of (O.left output.new) (O.fault_count output.new);
+          report = report_now;
+          out = out_now;
+        }) stop) }
+    ensures output_faults { RisesAtErr (O.fault_count output.old) (O.fault_count output.new) result }
 {
     viewer.owed -= 1;
     let before = viewer.files.frames.count;

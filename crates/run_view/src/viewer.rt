@@ -1,6 +1,7 @@
 //! The view of a finished run.
-ghost use Rattle.std.specs.Prelude.{◌≡◌, ◌⊎◌, ◌+◌, ◌<◌, ◌≤◌, [], map, string_bytes, true, false, IfErr, IfOk, None, OnOk};
+ghost use Rattle.std.specs.Prelude.{◌≡◌, ◌⊎◌, ◌<◌, ◌≤◌, [], map, string_bytes, true, false, IfErr, IfOk, None, OnOk};
 ghost use Rattle.std.specs.Io.KnownBytes.{Appends};
+ghost use Rattle.edge_io.specs.Faults.{RisesAtErr};
 ghost use Rattle.capture_input.specs.Reading.{is_open_in};
 ghost use Rattle.pcap_file.specs.declared.head.Head.{Head};
 ghost use Rattle.run_view.specs.Ahead.{left_in};
@@ -82,7 +83,8 @@ pub fn view<I: Source, O: Source, R: Source, K: Sink>(
         (R.left report.old) (R.fault_count report.old) (K.held out.old) (K.fault_count out.old))
         (viewed.moment_of (I.left input.new) (I.fault_count input.new) (O.left output.new) (O.fault_count output.new)
         (R.left report.new) (R.fault_count report.new) (K.held out.new) (K.fault_count out.new)) result }
-    ensures no_fault { viewed.IsToItsEnd result → counts_of (I.fault_count input.new) (O.fault_count output.new) (R.fault_count report.new) (K.fault_count out.new)
+    ensures no_fault { viewed.IsToItsEnd result → counts_of (I.fault_count input.new) (O.fault_count output.new) (R.fault_count report.new)
+        (K.fault_count out.new)
         ≡ counts_of (I.fault_count input.old) (O.fault_count output.old) (R.fault_count report.old) (K.fault_count out.old) }
     ensures refused { words_ask (map string_bytes words.now) ≡ None → (result ≡ 2) ⊎ (result ≡ 7) ⊎ (result ≡ 8) }
     ensures unread { words_ask (map string_bytes words.now) ≡ None → (input.new ≡ input.old) × (output.new ≡ output.old) × (report.new ≡ report.old) }
@@ -113,18 +115,15 @@ fn view_asked<I: Source, O: Source, R: Source, K: Sink>(
 ) -> Result<u8, Stop>
     ensures viewed { IfOk result (viewed.ViewedAs asked (I.left input.old) (O.left output.old) (R.left report.old) (K.held out.old) (K.held out.new)) }
     ensures answers { IfOk result (λ answered. viewed.IsToItsEnd answered) }
-    ensures stops { IfErr result (FilesStop asked (sources_of (I.left input.old) (O.left output.old) (R.left report.old)) (K.held out.old) (K.held out.new)
+    ensures stops { IfErr result (FilesStop asked (sources_of (I.left input.old) (O.left output.old) (R.left report.old)) (K.held out.old)
+        (K.held out.new)
         (counts_of (I.fault_count input.old) (O.fault_count output.old) (R.fault_count report.old) (K.fault_count out.old))
         (moment_of (I.left input.new) (I.fault_count input.new) (O.left output.new) (O.fault_count output.new)
         (R.left report.new) (R.fault_count report.new) (K.held out.new) (K.fault_count out.new))) }
-    ensures input_later { I.fault_count input.old ≤ I.fault_count input.new }
-    ensures input_kept { OnOk result (I.fault_count input.new ≡ I.fault_count input.old) }
-    ensures output_later { O.fault_count output.old ≤ O.fault_count output.new }
-    ensures output_kept { OnOk result (O.fault_count output.new ≡ O.fault_count output.old) }
-    ensures report_later { R.fault_count report.old ≤ R.fault_count report.new }
-    ensures report_kept { OnOk result (R.fault_count report.new ≡ R.fault_count report.old) }
-    ensures out_later { K.fault_count out.old ≤ K.fault_count out.new }
-    ensures out_kept { OnOk result (K.fault_count out.new ≡ K.fault_count out.old) }
+    ensures input_faults { RisesAtErr (I.fault_count input.old) (I.fault_count input.new) result }
+    ensures output_faults { RisesAtErr (O.fault_count output.old) (O.fault_count output.new) result }
+    ensures report_faults { RisesAtErr (R.fault_count report.old) (R.fault_count report.new) result }
+    ensures out_faults { RisesAtErr (K.fault_count out.old) (K.fault_count out.new) result }
 {
     let reader = open_input(input)?;
     let frames = open_output(reader.head().link, output)?;
@@ -199,33 +198,23 @@ fn view_entries<I: Source, O: Source, R: Source, K: Sink>(
     requires may { MayTake viewer.old }
     ensures viewed { IfOk result (λ answered. (head : Head) (before : Ends) →
         SoFar viewer.old head before (ends_of (I.left input.old) (O.left output.old) (K.held out.old)) [] →
-        Whole viewer.old.asked viewer.old.form viewer.old.files.head head before (K.held out.new) (left_in viewer.old.lines (R.left report.old)) answered) }
+        Whole viewer.old.asked viewer.old.form viewer.old.files.head head before (K.held out.new) (left_in viewer.old.lines (R.left report.old))
+        answered) }
     ensures answers { IfOk result (λ answered. viewed.IsToItsEnd answered) }
     ensures stops { IfErr result (λ stop. (head : Head) (before : Ends) →
         SoFar viewer.old head before (ends_of (I.left input.old) (O.left output.old) (K.held out.old)) [] →
-        EntriesStop viewer.old.asked (sources_of before.read before.written (left_in viewer.old.lines (R.left report.old))) viewer.old.form viewer.old.files.head head before.printed (K.held out.new)
+        EntriesStop viewer.old.asked (sources_of before.read before.written (left_in viewer.old.lines (R.left report.old))) viewer.old.form
+        viewer.old.files.head head before.printed (K.held out.new)
         (counts_of (I.fault_count input.old) (O.fault_count output.old) (R.fault_count report.old) (K.fault_count out.old))
         (moment_of (I.left input.new) (I.fault_count input.new) (O.left output.new) (O.fault_count output.new)
         (R.left report.new) (R.fault_count report.new) (K.held out.new) (K.fault_count out.new)) stop) }
-    ensures input_later { I.fault_count input.old ≤ I.fault_count input.new }
-    ensures input_kept { OnOk result (I.fault_count input.new ≡ I.fault_count input.old) }
-    ensures output_later { O.fault_count output.old ≤ O.fault_count output.new }
-    ensures output_kept { OnOk result (O.fault_count output.new ≡ O.fault_count output.old) }
-    ensures report_later { R.fault_count report.old ≤ R.fault_count report.new }
-    ensures report_kept { OnOk result (R.fault_count report.new ≡ R.fault_count report.old) }
-    ensures out_later { K.fault_count out.old ≤ K.fault_count out.new }
-    ensures out_kept { OnOk result (K.fault_count out.new ≡ K.fault_count out.old) }
+    ensures input_faults { RisesAtErr (I.fault_count input.old) (I.fault_count input.new) result }
+    ensures output_faults { RisesAtErr (O.fault_count output.old) (O.fault_count output.new) result }
+    ensures report_faults { RisesAtErr (R.fault_count report.old) (R.fault_count report.new) result }
+    ensures out_faults { RisesAtErr (K.fault_count out.old) (K.fault_count out.new) result }
 {
     'entries: while step(alloc, viewer, input, output, report, out)? {}
-    let count = viewer.files.count + viewer.second_count;
-    check_ends(
-        &mut viewer.files,
-        &mut viewer.lines,
-        count,
-        input,
-        output,
-        report,
-    )?;
+    check_ends(viewer, input, output, report)?;
     close(alloc, viewer, out)
 }
 
@@ -233,9 +222,9 @@ fn view_entries<I: Source, O: Source, R: Source, K: Sink>(
 fn close<K: Sink>(alloc: Global, viewer: &Viewer, out: &mut K) -> Result<u8, Stop>
     ensures closed { IfOk result (Closed viewer.now (K.held out.old) (K.held out.new)) }
     ensures answers { IfOk result (λ answered. viewed.IsToItsEnd answered) }
-    ensures stops { IfErr result (PartStops (K.held out.old) (K.held out.new) (K.fault_count out.old) (K.fault_count out.new) (closing_shown viewer.now)) }
-    ensures later { K.fault_count out.old ≤ K.fault_count out.new }
-    ensures kept { OnOk result (K.fault_count out.new ≡ K.fault_count out.old) }
+    ensures stops { IfErr result (PartStops (K.held out.old) (K.held out.new) (K.fault_count out.old) (K.fault_count out.new)
+        (closing_shown viewer.now)) }
+    ensures faults { RisesAtErr (K.fault_count out.old) (K.fault_count out.new) result }
 {
     let Ok(answered) = answer(alloc, viewer.asked.print, &viewer.tally) else {
         return Err(Stop::Memory);
@@ -248,9 +237,9 @@ fn close<K: Sink>(alloc: Global, viewer: &Viewer, out: &mut K) -> Result<u8, Sto
 // Prints what is printed at the end.
 fn print_end<K: Sink>(alloc: Global, viewer: &Viewer, out: &mut K) -> Result<(), Stop>
     ensures prints { OnOk result (Appends (K.held out.old) (K.held out.new) (closing_shown viewer.now)) }
-    ensures stops { IfErr result (PartStops (K.held out.old) (K.held out.new) (K.fault_count out.old) (K.fault_count out.new) (closing_shown viewer.now)) }
-    ensures later { K.fault_count out.old ≤ K.fault_count out.new }
-    ensures kept { OnOk result (K.fault_count out.new ≡ K.fault_count out.old) }
+    ensures stops { IfErr result (PartStops (K.held out.old) (K.held out.new) (K.fault_count out.old) (K.fault_count out.new)
+        (closing_shown viewer.now)) }
+    ensures faults { RisesAtErr (K.fault_count out.old) (K.fault_count out.new) result }
 {
     match viewer.asked.print {
         Print::Text => sum_up(alloc, Format::Text, viewer, out),
@@ -269,9 +258,9 @@ fn print_end<K: Sink>(alloc: Global, viewer: &Viewer, out: &mut K) -> Result<(),
 // notes.
 fn sum_up<K: Sink>(alloc: Global, format: Format, viewer: &Viewer, out: &mut K) -> Result<(), Stop>
     ensures prints { OnOk result (Appends (K.held out.old) (K.held out.new) (summed_shown format viewer.now)) }
-    ensures stops { IfErr result (PartStops (K.held out.old) (K.held out.new) (K.fault_count out.old) (K.fault_count out.new) (summed_shown format viewer.now)) }
-    ensures later { K.fault_count out.old ≤ K.fault_count out.new }
-    ensures kept { OnOk result (K.fault_count out.new ≡ K.fault_count out.old) }
+    ensures stops { IfErr result (PartStops (K.held out.old) (K.held out.new) (K.fault_count out.old) (K.fault_count out.new)
+        (summed_shown format viewer.now)) }
+    ensures faults { RisesAtErr (K.fault_count out.old) (K.fault_count out.new) result }
 {
     if has_choice(&viewer.asked) {
         return print_chosen(alloc, format, viewer.printing.records, out);

@@ -1,59 +1,95 @@
-use Rattle.std.proofs.Common.{Bool, sym, ap, subst, ◌∙◌}
+use Rattle.std.proofs.Common.{Bool, ◌+◌, ap, subst, inl, inr}
 use Rattle.std.proofs.lemmas.Result.{err_from_is_err_and}
-use Rattle.std.specs.Io.KnownBytes.{IsAtEnd}
+use Rattle.pcap_file.specs.Reads.{shown}
 use Rattle.run_view.specs.Ahead.{GoesOn, left_in}
-use Rattle.run_view.specs.Causes.{counts_of, moment_of}
-use Rattle.run_view.specs.Standing.{OutputAt, seen_of}
-use Rattle.run_view.specs.Why.{FramesGoOn}
-use Rattle.run_view.specs.declared.item.Frames.{Frames}
-use Rattle.run_view.proofs.Ons.{if_err, on_ok}
-use Rattle.run_view.proofs.Whys.{ends_by_frames, ends_by_records}
+use Rattle.run_view.specs.Causes.{sources_of}
+use Rattle.run_view.specs.Items.{frames_of, packets_of}
+use Rattle.run_view.proofs.Records.{begins_at, frames_at}
+use Rattle.run_view.proofs.Whys.{end_stops, is_over, lines_are, record_stops, took_last}
 use Rattle.run_view.proofs.ends.check_ends.Goals as goal
 
-pub returns-in_err-end_records-clause-stops : goal.returns-in_err-end_records-clause-stops
-returns-in_err-end_records-clause-stops g c =
-    let left = left_in c.args.lines.now (g.R.Source.left c.args.report.now) in
-    let M : Bool → Type 0 = λ b. GoesOn b left in
-    let over : IsAtEnd left = subst M c.if-more.false c.in-Ok.ensures.more in
-    let p = err_from_is_err_and c.from_residual.result c.from_residual.ensures.1 in rw (p.1, p.2)
-    (λ read written head records frames out input_at output_at.
-    ends_by_records c.args.files.now c.args.count read written left head records frames
-    (counts_of (g.I.Source.fault_count c.args.input.now) (g.O.Source.fault_count c.args.output.now) (g.R.Source.fault_count c.args.report.now) out.faults)
-    (moment_of (g.I.Source.left c.end_records.new.input) (g.I.Source.fault_count c.end_records.new.input) (g.O.Source.left c.args.output.now)
-    (g.O.Source.fault_count c.args.output.now) (g.R.Source.left c.goes_on.new.source) (g.R.Source.fault_count c.goes_on.new.source) out.octets
-    out.faults)
-    _ over (c.in_err-end_records.ensures.stops read records input_at))
-
-pub returns-clause-stops : goal.returns-clause-stops
-returns-clause-stops g c =
-    let left = left_in c.args.lines.now (g.R.Source.left c.args.report.now) in
-    let M : Bool → Type 0 = λ b. GoesOn b left in
-    let over : IsAtEnd left = subst M c.if-more.false c.in-Ok.ensures.more in
-    if_err c.end_frames.result c.end_frames.ensures.stops
-    (λ stop why read written head records frames out input_at output_at.
-    let P : Frames → Type 0 = λ f. OutputAt f.reader head written (g.O.Source.left c.args.output.now) frames in
-    let now = seen_of (g.O.Source.left c.end_frames.new.output) (g.O.Source.fault_count c.end_frames.new.output) in
-    let W : Frames → Type 0 = λ f. FramesGoOn f written head frames (g.O.Source.fault_count c.args.output.now) now stop in
-    ends_by_frames c.args.files.now c.args.count read written left head records frames
-    (counts_of (g.I.Source.fault_count c.args.input.now) (g.O.Source.fault_count c.args.output.now) (g.R.Source.fault_count c.args.report.now) out.faults)
-    (moment_of (g.I.Source.left c.end_records.new.input) (g.I.Source.fault_count c.end_records.new.input) (g.O.Source.left c.end_frames.new.output)
-    (g.O.Source.fault_count c.end_frames.new.output) (g.R.Source.left c.goes_on.new.source) (g.R.Source.fault_count c.goes_on.new.source) out.octets
-    out.faults)
-    stop over (c.in_ok-end_records.ensures.whole read records input_at)
-    (subst W c.end_records.ensures.frames (why written head frames (subst P (sym c.end_records.ensures.frames) output_at))))
-
-pub returns-clause-ends : goal.returns-clause-ends
-returns-clause-ends g c =
-    on_ok c.end_frames.result c.end_frames.ensures.whole
-    (λ whole read written head records frames input_at output_at.
-    record {
-      records_are = c.in_ok-end_records.ensures.whole read records input_at;
-      frames_are =
-          whole written head frames
-          (let P : Frames → Type 0 = λ f. OutputAt f.reader head written (g.O.Source.left c.args.output.now) frames in subst P (sym c.end_records.ensures.frames) output_at);
+pub returns-in_default-clause-stops : goal.returns-in_default-clause-stops
+returns-in_default-clause-stops g c out head before printed report left ended =
+    inl
+    (record {
+      rose = c.in_default.ensures.cause.failed;
+      behind = _;
+      lines = inr (took_last c.args.viewer.now head before _ report left _ ended);
+      part = c.in_default.ensures.unread;
     })
 
-pub returns-clause-same : goal.returns-clause-same
-returns-clause-same g c =
-    on_ok c.end_frames.result c.end_frames.ensures.whole
-    (λ whole. record { head = c.end_records.ensures.head; count = c.end_records.ensures.count; frame_count = c.end_frames.ensures.count ∙ ap (λ (f : Frames). f.count) c.end_records.ensures.frames })
+pub returns-then-more-clause-stops : goal.returns-then-more-clause-stops
+returns-then-more-clause-stops g c out head before printed report left ended =
+    let viewer = c.args.viewer.now in
+    let M : Bool → Type 0 = λ b. GoesOn b (left_in viewer.lines (g.R.Source.left c.args.report.now)) in
+    inr
+    (record {
+      behind = _;
+      last = took_last viewer head before _ report left _ ended;
+      more = subst M c.if-more.true c.in-Ok.ensures.more;
+      place = ap (λ n. n + 3) (lines_are viewer head before _ ended.going.items ended.going.so_far);
+    })
+
+pub returns-in_err-next_record-clause-stops : goal.returns-in_err-next_record-clause-stops
+returns-in_err-next_record-clause-stops g c =
+    let p = err_from_is_err_and c.from_residual.result c.from_residual.ensures.1 in rw (p.1, p.2)
+    (λ out head before printed report left ended.
+    let viewer = c.args.viewer.now in
+    let M : Bool → Type 0 = λ b. GoesOn b (left_in viewer.lines (g.R.Source.left c.args.report.now)) in
+    let over = is_over viewer head before _ report left _ ended (subst M c.if-more.false c.in-Ok.ensures.more) in
+    let items = ended.going.items in
+    record_stops (sources_of before.read before.written report) viewer.form viewer.files.head head items left _ _ _ (inr over)
+    (c.in_err-next_record.ensures.stops viewer.files.head before.read (packets_of items) ended.going.so_far.input))
+
+pub returns-in-Some-clause-stops : goal.returns-in-Some-clause-stops
+returns-in-Some-clause-stops g c out head before printed report left ended =
+    let viewer = c.args.viewer.now in
+    let M : Bool → Type 0 = λ b. GoesOn b (left_in viewer.lines (g.R.Source.left c.args.report.now)) in
+    let over = is_over viewer head before _ report left _ ended (subst M c.if-more.false c.in-Ok.ensures.more) in
+    let items = ended.going.items in
+    inr
+    (record {
+      over = over;
+      packet = shown c.in-Some.field-0;
+      more = begins_at _ _ _ _ _ (rw c.in-Some.is at (c.in_ok-next_record.ensures.reads viewer.files.head before.read (packets_of items) ended.going.so_far.input));
+      place = ap (λ n. n + 1) ended.going.so_far.count;
+    })
+
+pub returns-in_err-next_frame-clause-stops : goal.returns-in_err-next_frame-clause-stops
+returns-in_err-next_frame-clause-stops g c =
+    let p = err_from_is_err_and c.from_residual-in_err-next_frame.result c.from_residual-in_err-next_frame.ensures.1 in rw (p.1, p.2)
+    (λ out head before printed report left ended.
+    let viewer = c.args.viewer.now in
+    let M : Bool → Type 0 = λ b. GoesOn b (left_in viewer.lines (g.R.Source.left c.args.report.now)) in
+    let over = is_over viewer head before _ report left _ ended (subst M c.if-more.false c.in-Ok.ensures.more) in
+    let items = ended.going.items in
+    end_stops (sources_of before.read before.written report) viewer.form viewer.files.head head items left _ _ _ over
+    (rw c.in_default-2.is at (c.in_ok-next_record.ensures.reads viewer.files.head before.read (packets_of items) ended.going.so_far.input))
+    (c.in_err-next_frame.ensures.stops head before.written (frames_of items) ended.going.so_far.output))
+
+pub returns-in-Some-2-clause-stops : goal.returns-in-Some-2-clause-stops
+returns-in-Some-2-clause-stops g c out head before printed report left ended =
+    let viewer = c.args.viewer.now in
+    let M : Bool → Type 0 = λ b. GoesOn b (left_in viewer.lines (g.R.Source.left c.args.report.now)) in
+    let over = is_over viewer head before _ report left _ ended (subst M c.if-more.false c.in-Ok.ensures.more) in
+    let items = ended.going.items in
+    inr
+    (record {
+      over = over;
+      whole = rw c.in_default-2.is at (c.in_ok-next_record.ensures.reads viewer.files.head before.read (packets_of items) ended.going.so_far.input);
+      frame = shown c.in-Some-2.field-0;
+      more = frames_at _ _ _ _ _ (rw c.in-Some-2.is at (c.in_ok-next_frame.ensures.reads head before.written (frames_of items) ended.going.so_far.output));
+      place = ap (λ n. n + 1) ended.going.so_far.frame_count;
+    })
+
+pub returns-clause-over : goal.returns-clause-over
+returns-clause-over g c head before printed report left ended =
+    let viewer = c.args.viewer.now in
+    let M : Bool → Type 0 = λ b. GoesOn b (left_in viewer.lines (g.R.Source.left c.args.report.now)) in
+    let over = is_over viewer head before _ report left _ ended (subst M c.if-more.false c.in-Ok.ensures.more) in
+    let items = ended.going.items in
+    record {
+      report = over;
+      records = rw c.in_default-2.is at (c.in_ok-next_record.ensures.reads viewer.files.head before.read (packets_of items) ended.going.so_far.input);
+      frames = rw c.in_default-3.is at (c.in_ok-next_frame.ensures.reads head before.written (frames_of items) ended.going.so_far.output);
+    }

@@ -1,4 +1,4 @@
-use Rattle.std.proofs.Common.{◌≡◌, ◌≤◌, ◌+◌, ℕ, List}
+use Rattle.std.proofs.Common.{◌≡◌, ◌+◌, ℕ, List}
 use Rattle.std.specs.Prelude.{Option}
 use Rattle.pcap_file.specs.declared.head.Head.{Head}
 use Rattle.pcap_file.specs.Records.{Packet}
@@ -11,7 +11,6 @@ invariant-loop-number g l = record {
   ready : MayRead l.frames;
   wants : l.gathered.wants ≡ l.fn.gathered.wants;
   count : l.frames.count ≡ l.fn.frames.count + l.number;
-  later : g.O.Source.fault_count l.fn.output ≤ g.O.Source.fault_count l.output;
   kept : g.O.Source.fault_count l.output ≡ g.O.Source.fault_count l.fn.output;
   read : (all : Option (List ℕ)) (head : Head) (older : List Packet) → OutputAt l.fn.frames.reader head all (g.O.Source.left l.fn.output) older
       → FramesRead l.frames all (g.O.Source.left l.output) head older l.original.link l.original.kinds l.original.octets.now l.number l.gathered;

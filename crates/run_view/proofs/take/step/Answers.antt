@@ -1,22 +1,29 @@
-use Rattle.std.proofs.Common.{refl, sym, ◌∙◌, arith, rules}
+use Rattle.std.proofs.Common.{inl, refl, sym, ◌∙◌, arith, rules}
 use Rattle.std.proofs.lemmas.Result.{err_from_is_err_and}
 use Rattle.rule_book.specs.Entries.{plain}
 use Rattle.run_view.specs.Ahead.{line_in}
 use Rattle.run_view.specs.Forms.{version_of}
-use Rattle.run_view.specs.Items.{frames_of, packets_of}
 use Rattle.run_view.specs.SoFar.{turn_in}
 use Rattle.run_view.proofs.Amiss.{amiss_so, few_turn, none_told, other_number, part_told, told_so}
 use Rattle.run_view.proofs.Going.{going_ahead, going_at, going_on, next_line_of, taken_unprinted}
-use Rattle.run_view.proofs.Whys.{due_stops, next_amiss, take_stops}
+use Rattle.run_view.proofs.Whys.{due_stops, next_amiss, stops_behind}
 use Rattle.run_view.proofs.take.step.Goals as goal
+
+pub returns-in_default-clause-stops : goal.returns-in_default-clause-stops
+returns-in_default-clause-stops g c head before told going =
+    stops_behind c.args.viewer.now head before _ told _ _ _ _ going
+    (inl (record { rose = c.in_default.ensures.cause.failed; behind = _; lines = inl refl; part = c.in_default.ensures.unread }))
 
 pub returns-then-from-turn-clause-stops : goal.returns-then-from-turn-clause-stops
 returns-then-from-turn-clause-stops g c head before told going =
     let viewer = c.args.viewer.now in
     next_amiss viewer head before _ told _ _ _ _
-    (amiss_so c.version_of.result (version_of viewer.form) c.turn-turn.result (turn_in viewer) c.line-text.result.now (line_in c.next.new.self) _ c.version_of.ensures c.turn-turn.ensures c.line-text.ensures
+    (amiss_so c.version_of.result (version_of viewer.form) c.turn-turn.result (turn_in viewer) c.line-text.result.now (line_in c.next.new.self) _
+    c.version_of.ensures c.turn-turn.ensures c.line-text.ensures
     (few_turn viewer c.turn-turn.result c.turn-turn.ensures c.requires.may) (omega arith) c.in-Ok.ensures.line.is
-    (other_number _ _ _ (plain c.in-Some.entry) (few_turn viewer c.turn-turn.result c.turn-turn.ensures c.requires.may) (omega arith) (part_told _ _ _ _ (plain c.in-Some.entry) c.entry_part.ensures (rw c.in-Some.is at c.read_entry-told.ensures)) (λ is. c.if-from-turn.true (c.from.ensures ∙ is))))
+    (other_number _ _ _ (plain c.in-Some.entry) (few_turn viewer c.turn-turn.result c.turn-turn.ensures c.requires.may) (omega arith)
+    (part_told _ _ _ _ (plain c.in-Some.entry) c.entry_part.ensures (rw c.in-Some.is at c.read_entry-told.ensures))
+    (λ is. c.if-from-turn.true (c.from.ensures ∙ is))))
     refl going
 
 pub returns-in_err-take-in-Some-clause-stops : goal.returns-in_err-take-in-Some-clause-stops
@@ -24,37 +31,44 @@ returns-in_err-take-in-Some-clause-stops g c =
     let p = err_from_is_err_and c.from_residual.result c.from_residual.ensures.1 in rw (p.1, p.2)
     (λ head before told going.
     let viewer = c.args.viewer.now in
-    let next = told_so c.version_of.result (version_of viewer.form) c.turn-turn.result (turn_in viewer) c.line-text.result.now (line_in c.next.new.self) _ _ (plain c.in-Some.entry) c.version_of.ensures c.turn-turn.ensures c.line-text.ensures
+    let next = told_so c.version_of.result (version_of viewer.form) c.turn-turn.result (turn_in viewer) c.line-text.result.now
+    (line_in c.next.new.self) _ _ (plain c.in-Some.entry) c.version_of.ensures c.turn-turn.ensures c.line-text.ensures
     c.in-Ok.ensures.line.taken (part_told _ _ _ _ (plain c.in-Some.entry) c.entry_part.ensures (rw c.in-Some.is at c.read_entry-told.ensures))
     (search rules) in
-    take_stops viewer head before _ told _ _ _ _ (plain c.in-Some.entry) going
-    (next_line_of viewer head before _ going.items _ _ (plain c.in-Some.entry) going.so_far next)
-    (c.in_err-take-in-Some.ensures.stops before.read before.written head (packets_of going.items) (frames_of going.items) going.so_far.input going.so_far.output))
+    let old = record viewer { lines = c.next.new.self } in
+    let ahead = going_ahead viewer c.next.new.self head before _ told _ going in
+    stops_behind old head before _ told _ _ _ _ ahead
+    (c.in_err-take-in-Some.ensures.stops _ _ _ _ head before _ told _ ahead
+    (next_line_of old head before _ ahead.items _ _ (plain c.in-Some.entry) ahead.so_far next)))
 
 pub returns-in_err-print_due-in-Some-clause-stops : goal.returns-in_err-print_due-in-Some-clause-stops
 returns-in_err-print_due-in-Some-clause-stops g c =
     let p = err_from_is_err_and c.from_residual-in_err-print_due-in-Some.result c.from_residual-in_err-print_due-in-Some.ensures.1 in rw (p.1, p.2)
     (λ head before told going.
     let viewer = c.args.viewer.now in
-    let next = told_so c.version_of.result (version_of viewer.form) c.turn-turn.result (turn_in viewer) c.line-text.result.now (line_in c.next.new.self) _ _ (plain c.in-Some.entry) c.version_of.ensures c.turn-turn.ensures c.line-text.ensures
+    let next = told_so c.version_of.result (version_of viewer.form) c.turn-turn.result (turn_in viewer) c.line-text.result.now
+    (line_in c.next.new.self) _ _ (plain c.in-Some.entry) c.version_of.ensures c.turn-turn.ensures c.line-text.ensures
     c.in-Ok.ensures.line.taken (part_told _ _ _ _ (plain c.in-Some.entry) c.entry_part.ensures (rw c.in-Some.is at c.read_entry-told.ensures))
     (search rules) in
     let old = record viewer { lines = c.next.new.self } in
     let went = c.in_ok-take-in-Some.ensures.went in
     let ahead = going_ahead viewer c.next.new.self head before _ told _ going in
     due_stops old c.take.new.viewer head before _ told _ _ _ _ _ _ _ _ went.asked went.form went.head (λ rose. rose) ahead
-    (taken_unprinted old c.take.new.viewer head before _ (g.I.Source.left c.take.new.input) (g.O.Source.left c.take.new.output) told _ _ (plain c.in-Some.entry)
+    (taken_unprinted old c.take.new.viewer head before _ (g.I.Source.left c.take.new.input) (g.O.Source.left c.take.new.output) told _ _
+    (plain c.in-Some.entry)
     (λ before printed items now fits number. c.in_ok-take-in-Some.ensures.taken head before printed items now fits number) next ahead)
     c.in_err-print_due-in-Some.ensures.stops)
 
 pub returns-in_ok-print_due-in-Some-clause-going : goal.returns-in_ok-print_due-in-Some-clause-going
 returns-in_ok-print_due-in-Some-clause-going g c head before told going =
     let viewer = c.args.viewer.now in
-    let next = told_so c.version_of.result (version_of viewer.form) c.turn-turn.result (turn_in viewer) c.line-text.result.now (line_in c.next.new.self) _ _ (plain c.in-Some.entry) c.version_of.ensures c.turn-turn.ensures c.line-text.ensures
+    let next = told_so c.version_of.result (version_of viewer.form) c.turn-turn.result (turn_in viewer) c.line-text.result.now
+    (line_in c.next.new.self) _ _ (plain c.in-Some.entry) c.version_of.ensures c.turn-turn.ensures c.line-text.ensures
     c.in-Ok.ensures.line.taken (part_told _ _ _ _ (plain c.in-Some.entry) c.entry_part.ensures (rw c.in-Some.is at c.read_entry-told.ensures))
     (search rules) in
     going_at _ head before _ told _ _ _ (sym c.in_ok-take-in-Some.ensures.went.lines)
-    (going_on (record viewer { lines = c.next.new.self }) c.take.new.viewer head before _ (g.I.Source.left c.take.new.input) (g.O.Source.left c.take.new.output) _ told _ _ (plain c.in-Some.entry)
+    (going_on (record viewer { lines = c.next.new.self }) c.take.new.viewer head before _ (g.I.Source.left c.take.new.input)
+    (g.O.Source.left c.take.new.output) _ told _ _ (plain c.in-Some.entry)
     (λ before printed items now fits number. c.in_ok-take-in-Some.ensures.taken head before printed items now fits number)
     c.in_ok-print_due-in-Some.ensures.prints next (going_ahead viewer c.next.new.self head before _ told _ going))
 
@@ -62,7 +76,9 @@ pub returns-in-None-2-clause-stops : goal.returns-in-None-2-clause-stops
 returns-in-None-2-clause-stops g c head before told going =
     let viewer = c.args.viewer.now in
     next_amiss viewer head before _ told _ _ _ _
-    (amiss_so c.version_of.result (version_of viewer.form) c.turn-turn.result (turn_in viewer) c.line-text.result.now (line_in c.next.new.self) _ c.version_of.ensures c.turn-turn.ensures c.line-text.ensures
+    (amiss_so c.version_of.result (version_of viewer.form) c.turn-turn.result (turn_in viewer) c.line-text.result.now (line_in c.next.new.self) _
+    c.version_of.ensures c.turn-turn.ensures c.line-text.ensures
     (few_turn viewer c.turn-turn.result c.turn-turn.ensures c.requires.may) (omega arith) c.in-Ok.ensures.line.is
-    (none_told _ _ _ _ c.entry_part.ensures (rw c.in-None.is at c.read_entry-told.ensures) (λ last. let e = sym c.if-is_last.false ∙ c.is_last.ensures.1 last in cc)))
+    (none_told _ _ _ _ c.entry_part.ensures (rw c.in-None.is at c.read_entry-told.ensures)
+    (λ last. let e = sym c.if-is_last.false ∙ c.is_last.ensures.1 last in cc)))
     refl going

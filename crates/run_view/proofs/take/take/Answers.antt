@@ -1,10 +1,8 @@
 use Rattle.std.proofs.Common.{◌≡◌, ◌+◌, Bool, true, sym, subst, if◌then◌else◌}
 use Rattle.rule_book.specs.Entries.{plain}
-use Rattle.run_view.specs.Causes.{frames_by}
 use Rattle.run_view.specs.Items.{line_by, waits}
 use Rattle.run_view.specs.SoFar.{Taken, ends_of}
-use Rattle.run_view.specs.Standing.{seen_of}
-use Rattle.run_view.specs.Why.{LineStops}
+use Rattle.edge_io.specs.Seen.{seen_of}
 use Rattle.run_view.proofs.Ending.{some_waits}
 use Rattle.run_view.proofs.Ons.{if_err, on_ok}
 use Rattle.run_view.proofs.take.take.Goals as goal
@@ -22,13 +20,6 @@ returns-else-viewer-eq0-clause-taken g c =
 
 pub returns-else-viewer-eq0-clause-stops : goal.returns-else-viewer-eq0-clause-stops
 returns-else-viewer-eq0-clause-stops g c =
-    let flag : waits c.args.viewer.now.owed ≡ true = some_waits c.args.viewer.now.owed c.if-viewer-eq0.false in
     if_err c.take_second.result c.take_second.ensures.stops
-    (λ stop why read written head records frames input_at output_at.
-    let T : Bool → Type 0 = λ b.
-    LineStops b c.args.viewer.now.files read written head records frames (frames_by b c.args.viewer.now.form (plain c.args.entry.now))
-    (g.I.Source.fault_count c.args.input.now) (seen_of (g.I.Source.left c.args.input.now) (g.I.Source.fault_count c.args.input.now))
-    (g.O.Source.fault_count c.args.output.now) (seen_of (g.O.Source.left c.take_second.new.output) (g.O.Source.fault_count c.take_second.new.output))
-    stop in
-    subst T (sym flag) (why read written head records frames (g.I.Source.fault_count c.args.input.now)
-    (seen_of (g.I.Source.left c.args.input.now) (g.I.Source.fault_count c.args.input.now)) output_at))
+    (λ stop why report out report_now out_now.
+    why _ _ report out (seen_of (g.I.Source.left c.args.input.now) (g.I.Source.fault_count c.args.input.now)) report_now out_now)

@@ -22,11 +22,14 @@ returns-clause-stops g c =
     let summary : Bool → List ℕ = λ b. summary_line format (summary_shown b viewer.files.count viewer.files.frames.count viewer.tally) in
     let eras = behind_summary format (table_of viewer.tally.eras) (table_of viewer.tally.second_eras) (notes_in viewer.tally) in
     let P : Bool → Type 0 = λ b.
-    PartStops (g.K.Sink.held c.args.out.now) (g.K.Sink.held c.print_rest.new.out) (g.K.Sink.fault_count c.args.out.now) (g.K.Sink.fault_count c.print_rest.new.out)
+    PartStops (g.K.Sink.held c.args.out.now) (g.K.Sink.held c.print_rest.new.out) (g.K.Sink.fault_count c.args.out.now)
+    (g.K.Sink.fault_count c.print_rest.new.out)
     (if b then chosen_line format viewer.printing.records else summary (is_both viewer.form) ++ eras) stop in
     subst P (sym (sym c.has_choice.ensures ∙ c.if-has_choice.false))
-    (part_behind _ _ _ _ _ _ _ _ stop (λ rose. rose_within _ _ _ _ c.in_ok-print_summary.ensures.later (omega arith) rose) (summary_whole format _)
-    (let S : Bool → Type 0 = λ b. Appends (g.K.Sink.held c.args.out.now) (g.K.Sink.held c.print_summary.new.out) (summary b) in subst S c.is_both.ensures c.in_ok-print_summary.ensures.prints) why))
+    (part_behind _ _ _ _ _ _ _ _ stop (λ rose. rose_within _ _ _ _ c.in_ok-print_summary.ensures.faults.later (omega arith) rose)
+    (summary_whole format _)
+    (let S : Bool → Type 0 = λ b. Appends (g.K.Sink.held c.args.out.now) (g.K.Sink.held c.print_summary.new.out) (summary b) in
+    subst S c.is_both.ensures c.in_ok-print_summary.ensures.prints) why))
 
 pub returns-in_err-print_summary-clause-stops : goal.returns-in_err-print_summary-clause-stops
 returns-in_err-print_summary-clause-stops g c =
@@ -35,7 +38,8 @@ returns-in_err-print_summary-clause-stops g c =
     let format = c.args.format in
     rw (p.1, p.2)
     (summary_stops _ _ _ _ _ (has_choice viewer.asked) (is_both viewer.form) c.is_both.result (chosen_line format viewer.printing.records)
-    (λ b. summary_line format (summary_shown b viewer.files.count viewer.files.frames.count viewer.tally)) (behind_summary format (table_of viewer.tally.eras) (table_of viewer.tally.second_eras) (notes_in viewer.tally))
+    (λ b. summary_line format (summary_shown b viewer.files.count viewer.files.frames.count viewer.tally))
+    (behind_summary format (table_of viewer.tally.eras) (table_of viewer.tally.second_eras) (notes_in viewer.tally))
     (sym c.has_choice.ensures ∙ c.if-has_choice.false) c.is_both.ensures c.in_err-print_summary.ensures.stops)
 
 pub returns-then-has_choice-clause-stops : goal.returns-then-has_choice-clause-stops
@@ -48,7 +52,8 @@ returns-then-has_choice-clause-stops g c =
     let rest : List ℕ = summary_line format (summary_shown (is_both viewer.form) viewer.files.count viewer.files.frames.count viewer.tally)
     ++ behind_summary format (table_of viewer.tally.eras) (table_of viewer.tally.second_eras) (notes_in viewer.tally) in
     let P : Bool → Type 0 = λ b.
-    PartStops (g.K.Sink.held c.args.out.now) (g.K.Sink.held c.print_chosen.new.out) (g.K.Sink.fault_count c.args.out.now) (g.K.Sink.fault_count c.print_chosen.new.out)
+    PartStops (g.K.Sink.held c.args.out.now) (g.K.Sink.held c.print_chosen.new.out) (g.K.Sink.fault_count c.args.out.now)
+    (g.K.Sink.fault_count c.print_chosen.new.out)
     (if b then chosen else rest) stop in
     subst P (sym (sym c.has_choice.ensures ∙ c.if-has_choice.true)) (part_whole _ _ _ _ _ stop why))
 
@@ -60,7 +65,8 @@ returns-clause-prints g c =
     let format = c.args.format in
     let summary : Bool → List ℕ = λ b. summary_line format (summary_shown b viewer.files.count viewer.files.frames.count viewer.tally) in
     let rest = behind_summary format (table_of viewer.tally.eras) (table_of viewer.tally.second_eras) (notes_in viewer.tally) in
-    let P : Bool → Type 0 = λ b. Appends (g.K.Sink.held c.args.out.now) (g.K.Sink.held c.print_rest.new.out) (if b then chosen_line format viewer.printing.records else summary (is_both viewer.form) ++ rest) in
+    let P : Bool → Type 0 = λ b. Appends (g.K.Sink.held c.args.out.now) (g.K.Sink.held c.print_rest.new.out)
+    (if b then chosen_line format viewer.printing.records else summary (is_both viewer.form) ++ rest) in
     let S : Bool → Type 0 = λ b. Appends (g.K.Sink.held c.args.out.now) (g.K.Sink.held c.print_summary.new.out) (summary b) in
     subst P (sym (sym c.has_choice.ensures ∙ c.if-has_choice.false))
     (Appends-trans _ _ _ (summary (is_both viewer.form)) rest (subst S c.is_both.ensures c.in_ok-print_summary.ensures.prints) prints))

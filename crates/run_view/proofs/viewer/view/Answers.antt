@@ -11,7 +11,8 @@ returns-in-Err-clause-viewed g c is = absurd (told_no_end _ c.in-Err.stop _ _ _ 
 pub returns-in-Err-clause-stopped : goal.returns-in-Err-clause-stopped
 returns-in-Err-clause-stopped g c =
     inr
-    (stopped_by _ _ _ _ _ _ c.in-Err.stop _ c.asks_json-json.ensures (λ rose. rose_within _ _ _ _ c.in-Err.ensures.out_later (search rules) rose)
+    (stopped_by _ _ _ _ _ _ c.in-Err.stop _ c.asks_json-json.ensures
+    (λ rose. rose_within _ _ _ _ c.in-Err.ensures.out_faults.later (search rules) rose)
     (cause_of _ _ _ _ _ _ _ (sym c.asked_in.ensures ∙ c.in-Some.is) c.tell-in-Err.ensures.later c.in-Err.ensures.stops) c.tell-in-Err.ensures.told)
 
 pub returns-in_default-clause-stopped : goal.returns-in_default-clause-stopped

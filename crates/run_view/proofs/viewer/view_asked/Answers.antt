@@ -1,4 +1,4 @@
-use Rattle.std.proofs.Common.{ap, inl, inr, refl, ◌∙◌, arith}
+use Rattle.std.proofs.Common.{ap, inl, inr, ◌∙◌}
 use Rattle.std.proofs.KnownBytes.{Appends-nil}
 use Rattle.pcap_file.specs.declared.head.Head.{Head}
 use Rattle.std.proofs.lemmas.Result.{err_from_is_err_and}
@@ -6,75 +6,89 @@ use Rattle.run_view.proofs.Ons.{if_err, if_ok}
 use Rattle.run_view.proofs.Starting.{first_taken, fresh_so_far, opening_stops, stops_within, viewed_fresh}
 use Rattle.run_view.proofs.Heads.{by_input, by_output_head, by_report_ahead, heads_are}
 use Rattle.run_view.specs.SoFar.{ends_of}
-use Rattle.run_view.specs.Causes.{counts_of, moment_of}
+use Rattle.run_view.specs.Causes.{counts_of}
 use Rattle.run_view.proofs.viewer.view_asked.Goals as goal
 
 pub returns-clause-viewed : goal.returns-clause-viewed
 returns-clause-viewed g c =
     if_ok c.view_entries.result c.view_entries.ensures.viewed
     (λ answered viewed.
-    viewed_fresh c.in_ok-viewer.viewer c.args.asked c.in_ok-form.form c.read_form.new.lines c.in_ok-reader.reader c.in_ok-frames.frames _ _ _ _ _ _ answered c.in_ok-viewer.ensures
+    viewed_fresh c.in_ok-viewer.viewer c.args.asked c.in_ok-form.form c.read_form.new.lines c.in_ok-reader.reader c.in_ok-frames.frames _ _ _ _ _ _
+    answered c.in_ok-viewer.ensures
     (c.in_ok-frames.ensures.same ∙ ap (λ (h : Head). h.link) c.head.ensures)
-    (first_taken c.in_ok-lines.lines c.read_form.new.lines c.in_ok-viewer.viewer.lines _ _ _ (c.in_ok-lines.ensures _) c.in_ok-viewer.ensures.lines_are c.in_ok-form.ensures.first)
+    (first_taken c.in_ok-lines.lines c.read_form.new.lines c.in_ok-viewer.viewer.lines _ _ _ (c.in_ok-lines.ensures _)
+    c.in_ok-viewer.ensures.lines_are c.in_ok-form.ensures.first)
     (viewed _ (ends_of (g.I.Source.left c.args.input.now) (g.O.Source.left c.args.output.now) (g.K.Sink.held c.args.out.now))
-    (fresh_so_far c.in_ok-viewer.viewer c.args.asked c.in_ok-form.form c.read_form.new.lines c.in_ok-reader.reader c.in_ok-frames.frames _ _ _ _ _ _ c.in_ok-viewer.ensures c.in_ok-reader.ensures.opened
+    (fresh_so_far c.in_ok-viewer.viewer c.args.asked c.in_ok-form.form c.read_form.new.lines c.in_ok-reader.reader c.in_ok-frames.frames _ _ _ _ _ _
+    c.in_ok-viewer.ensures c.in_ok-reader.ensures.opened
     c.in_ok-frames.ensures.opened c.in_ok-print_opening.ensures.prints)))
 
 pub returns-clause-stops : goal.returns-clause-stops
 returns-clause-stops g c =
     if_err c.view_entries.result c.view_entries.ensures.stops
     (λ stop why.
-    let first =
-    counts_of (g.I.Source.fault_count c.open_input.new.source) (g.O.Source.fault_count c.open_output.new.source) (g.R.Source.fault_count c.read_form.new.report) (g.K.Sink.fault_count c.print_opening.new.out) in
-    let last =
-    moment_of (g.I.Source.left c.view_entries.new.input) (g.I.Source.fault_count c.view_entries.new.input) (g.O.Source.left c.view_entries.new.output)
-    (g.O.Source.fault_count c.view_entries.new.output) (g.R.Source.left c.view_entries.new.report) (g.R.Source.fault_count c.view_entries.new.report)
-    (g.K.Sink.held c.view_entries.new.out) (g.K.Sink.fault_count c.view_entries.new.out) in
-    let wide = counts_of (g.I.Source.fault_count c.args.input.now) (g.O.Source.fault_count c.args.output.now) (g.R.Source.fault_count c.args.report.now) (g.K.Sink.fault_count c.args.out.now) in
-    stops_within c.in_ok-viewer.viewer c.args.asked c.in_ok-form.form c.read_form.new.lines c.in_ok-reader.reader c.in_ok-frames.frames _ _ _ _ _ _ first last wide stop
-    (record {
-      lower = record { input = omega arith; output = omega arith; report = omega arith; out = omega arith };
-      input = refl;
-      output = refl;
-      report = refl;
-      out = omega arith;
-    })
+    stops_within c.in_ok-viewer.viewer c.args.asked c.in_ok-form.form c.read_form.new.lines c.in_ok-reader.reader c.in_ok-frames.frames _ _ _ _ _ _ _
+    _ _ stop
+    (λ i. counts_of (c.in_ok-reader.ensures.faults.kept i) (c.in_ok-frames.ensures.faults.kept i) (c.in_ok-form.ensures.faults.kept i)
+    (c.in_ok-print_opening.ensures.faults.kept i))
     c.in_ok-viewer.ensures (c.in_ok-frames.ensures.same ∙ ap (λ (h : Head). h.link) c.head.ensures)
-    (first_taken c.in_ok-lines.lines c.read_form.new.lines c.in_ok-viewer.viewer.lines _ _ _ (c.in_ok-lines.ensures _) c.in_ok-viewer.ensures.lines_are c.in_ok-form.ensures.first)
+    (first_taken c.in_ok-lines.lines c.read_form.new.lines c.in_ok-viewer.viewer.lines _ _ _ (c.in_ok-lines.ensures _)
+    c.in_ok-viewer.ensures.lines_are c.in_ok-form.ensures.first)
     (why _ (ends_of (g.I.Source.left c.args.input.now) (g.O.Source.left c.args.output.now) (g.K.Sink.held c.args.out.now))
-    (fresh_so_far c.in_ok-viewer.viewer c.args.asked c.in_ok-form.form c.read_form.new.lines c.in_ok-reader.reader c.in_ok-frames.frames _ _ _ _ _ _ c.in_ok-viewer.ensures c.in_ok-reader.ensures.opened
+    (fresh_so_far c.in_ok-viewer.viewer c.args.asked c.in_ok-form.form c.read_form.new.lines c.in_ok-reader.reader c.in_ok-frames.frames _ _ _ _ _ _
+    c.in_ok-viewer.ensures c.in_ok-reader.ensures.opened
     c.in_ok-frames.ensures.opened c.in_ok-print_opening.ensures.prints)))
 
 pub returns-in_err-reader-clause-stops : goal.returns-in_err-reader-clause-stops
 returns-in_err-reader-clause-stops g c =
-    let p = err_from_is_err_and c.from_residual.result c.from_residual.ensures.1 in rw (p.1, p.2) (inl (record { why = by_input _ _ _ _ _ (λ rose. inl rose) c.in_err-reader.ensures.stops; text = Appends-nil _ }))
+    let p = err_from_is_err_and c.from_residual.result c.from_residual.ensures.1 in
+    rw (p.1, p.2) (inl (record { why = by_input _ _ _ _ _ (λ rose. inl rose) c.in_err-reader.ensures.stops; text = Appends-nil _ }))
 
 pub returns-in_err-frames-clause-stops : goal.returns-in_err-frames-clause-stops
 returns-in_err-frames-clause-stops g c =
     let p = err_from_is_err_and c.from_residual-in_err-frames.result c.from_residual-in_err-frames.ensures.1 in rw (p.1, p.2)
-    (inl (record { why = by_output_head c.in_ok-reader.reader _ _ _ _ _ _ _ (λ rose. inr (inl rose)) (ap (λ (h : Head). h.link) c.head.ensures) c.in_ok-reader.ensures.opened c.in_err-frames.ensures.stops; text = Appends-nil _ }))
+    (inl (record {
+      why = by_output_head c.in_ok-reader.reader _ _ _ _ _ _ _ (λ rose. inr (inl rose)) (ap (λ (h : Head). h.link) c.head.ensures)
+          c.in_ok-reader.ensures.opened c.in_err-frames.ensures.stops;
+      text = Appends-nil _;
+    }))
 
 pub returns-in_err-form-clause-stops : goal.returns-in_err-form-clause-stops
 returns-in_err-form-clause-stops g c =
     let p = err_from_is_err_and c.from_residual-in_err-form.result c.from_residual-in_err-form.ensures.1 in rw (p.1, p.2)
     (inl (record {
       why = by_report_ahead _ c.in_ok-lines.lines _ _ _ _ (c.in_ok-lines.ensures _) (λ rose. inr (inr rose))
-          (heads_are c.in_ok-reader.reader c.in_ok-frames.frames _ _ _ _ c.in_ok-reader.ensures.opened c.in_ok-frames.ensures.opened (c.in_ok-frames.ensures.same ∙ ap (λ (h : Head). h.link) c.head.ensures)) c.in_err-form.ensures.stops;
+          (heads_are c.in_ok-reader.reader c.in_ok-frames.frames _ _ _ _ c.in_ok-reader.ensures.opened c.in_ok-frames.ensures.opened
+          (c.in_ok-frames.ensures.same ∙ ap (λ (h : Head). h.link) c.head.ensures)) c.in_err-form.ensures.stops;
       text = Appends-nil _;
     }))
 
 pub returns-in_err-viewer-clause-stops : goal.returns-in_err-viewer-clause-stops
 returns-in_err-viewer-clause-stops g c =
-    let p = err_from_is_err_and c.from_residual-in_err-viewer.result c.from_residual-in_err-viewer.ensures.1 in rw (p.1, p.2) (inl (record { why = tt; text = Appends-nil _ }))
+    let p = err_from_is_err_and c.from_residual-in_err-viewer.result c.from_residual-in_err-viewer.ensures.1 in
+    rw (p.1, p.2) (inl (record { why = tt; text = Appends-nil _ }))
 
 pub returns-in_err-lines-clause-stops : goal.returns-in_err-lines-clause-stops
 returns-in_err-lines-clause-stops g c =
-    let p = err_from_is_err_and c.from_residual-in_err-lines.result c.from_residual-in_err-lines.ensures.1 in rw (p.1, p.2) (inl (record { why = tt; text = Appends-nil _ }))
+    let p = err_from_is_err_and c.from_residual-in_err-lines.result c.from_residual-in_err-lines.ensures.1 in
+    rw (p.1, p.2) (inl (record { why = tt; text = Appends-nil _ }))
 
 pub returns-in_err-print_opening-clause-stops : goal.returns-in_err-print_opening-clause-stops
 returns-in_err-print_opening-clause-stops g c =
     let p = err_from_is_err_and c.from_residual-in_err-print_opening.result c.from_residual-in_err-print_opening.ensures.1 in rw (p.1, p.2)
-    (opening_stops c.in_ok-viewer.viewer c.args.asked c.in_ok-form.form c.read_form.new.lines c.in_ok-reader.reader c.in_ok-frames.frames _ _ _ _ _ _ _ _ _ _ _ _ _ (λ rose. rose) c.in_ok-viewer.ensures
+    (opening_stops c.in_ok-viewer.viewer c.args.asked c.in_ok-form.form c.read_form.new.lines c.in_ok-reader.reader c.in_ok-frames.frames _ _ _ _ _ _
+    _ _ _ _ _ _ _ (λ rose. rose) c.in_ok-viewer.ensures
     (c.in_ok-frames.ensures.same ∙ ap (λ (h : Head). h.link) c.head.ensures)
-    (first_taken c.in_ok-lines.lines c.read_form.new.lines c.in_ok-viewer.viewer.lines _ _ _ (c.in_ok-lines.ensures _) c.in_ok-viewer.ensures.lines_are c.in_ok-form.ensures.first)
+    (first_taken c.in_ok-lines.lines c.read_form.new.lines c.in_ok-viewer.viewer.lines _ _ _ (c.in_ok-lines.ensures _)
+    c.in_ok-viewer.ensures.lines_are c.in_ok-form.ensures.first)
     c.in_ok-reader.ensures.opened c.in_ok-frames.ensures.opened c.in_err-print_opening.ensures.stops)
+
+pub returns-in_err-print_opening-clause-input_faults : goal.returns-in_err-print_opening-clause-input_faults
+returns-in_err-print_opening-clause-input_faults g c =
+    let p = err_from_is_err_and c.from_residual-in_err-print_opening.result c.from_residual-in_err-print_opening.ensures.1 in
+    rw p.1 (record { later = c.in_ok-reader.ensures.faults.later; kept = tt })
+
+pub returns-in_err-print_opening-clause-output_faults : goal.returns-in_err-print_opening-clause-output_faults
+returns-in_err-print_opening-clause-output_faults g c =
+    let p = err_from_is_err_and c.from_residual-in_err-print_opening.result c.from_residual-in_err-print_opening.ensures.1 in
+    rw p.1 (record { later = c.in_ok-frames.ensures.faults.later; kept = tt })

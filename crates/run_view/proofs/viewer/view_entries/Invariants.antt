@@ -1,4 +1,4 @@
-use Rattle.std.proofs.Common.{◌≡◌, ◌≤◌, ◌-◌, ◌^◌, []}
+use Rattle.std.proofs.Common.{◌≡◌, ◌-◌, ◌^◌, []}
 use Rattle.pcap_file.specs.declared.head.Head.{Head}
 use Rattle.run_view.specs.Ahead.{left_in}
 use Rattle.run_view.specs.SoFar.{Ends, MayTake, SoFar, ends_of, lines_in}
@@ -13,11 +13,8 @@ invariant-entries g l = record {
   head : l.viewer.files.head ≡ l.fn.viewer.files.head;
   going : (head : Head) (before : Ends)
       → SoFar l.fn.viewer head before (ends_of (g.I.Source.left l.fn.input) (g.O.Source.left l.fn.output) (g.K.Sink.held l.fn.out)) []
-      → Going l.viewer head before (ends_of (g.I.Source.left l.input) (g.O.Source.left l.output) (g.K.Sink.held l.out)) (left_in l.fn.viewer.lines (g.R.Source.left l.fn.report)) (left_in l.viewer.lines (g.R.Source.left l.report));
-  input_later : g.I.Source.fault_count l.fn.input ≤ g.I.Source.fault_count l.input;
-  output_later : g.O.Source.fault_count l.fn.output ≤ g.O.Source.fault_count l.output;
-  report_later : g.R.Source.fault_count l.fn.report ≤ g.R.Source.fault_count l.report;
-  out_later : g.K.Sink.fault_count l.fn.out ≤ g.K.Sink.fault_count l.out;
+      → Going l.viewer head before (ends_of (g.I.Source.left l.input) (g.O.Source.left l.output) (g.K.Sink.held l.out))
+      (left_in l.fn.viewer.lines (g.R.Source.left l.fn.report)) (left_in l.viewer.lines (g.R.Source.left l.report));
   input_kept : g.I.Source.fault_count l.input ≡ g.I.Source.fault_count l.fn.input;
   output_kept : g.O.Source.fault_count l.output ≡ g.O.Source.fault_count l.fn.output;
   report_kept : g.R.Source.fault_count l.report ≡ g.R.Source.fault_count l.fn.report;
