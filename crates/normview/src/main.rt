@@ -4,58 +4,25 @@
 mod texts;
 
 use edge_io::{FileSource, LineOut};
-use error_line::{Why, failed, last_line, tell};
+use error_line::{Program, STANDARD_OUTPUT, Why, failed, last_line, tell};
 use run_view::view;
 use std::fs::File;
+use std::io;
 use std::process::ExitCode;
-use std::{env, io};
 
-// The name at the beginning of a line on standard error.
-const PROGRAM: &str = "normview";
-
-// The name of standard output there.
-const STANDARD_OUTPUT: &str = "standard output";
+const PROGRAM: Program = Program {
+    name: "normview",
+    help: texts::HELP,
+    version: texts::VERSION,
+    memory: "stop memory\n",
+};
 
 fn main(rt: HostRuntime) -> ExitCode {
-    let words = match words_after_name(&rt) {
+    let words = match PROGRAM.words(&rt) {
         Ok(words) => words,
-        Err(error) if error.kind() == io::ErrorKind::OutOfMemory => return without_memory(&rt),
-        // A word that is not UTF-8 is refused as a command line without words is.
-        Err(_) => Vec::new(rt.alloc()),
+        Err(status) => return status,
     };
-    if let Some(text) = asked_text(&words) {
-        return print(&rt, text);
-    }
     view_files(&rt, &words)
-}
-
-// The words of the command line without the program's own name.
-fn words_after_name(rt: &HostRuntime) -> io::Result<Vec<String>> {
-    let mut words = env::args(rt)?;
-    let _ = words.next();
-    Ok(words.collect(rt.alloc())?)
-}
-
-// The text that the words ask for, where they ask for one alone.
-fn asked_text(words: &[String]) -> Option<&'static str> {
-    let [word] = words else {
-        return None;
-    };
-    match word.as_str() {
-        "--help" | "-h" => Some(texts::HELP),
-        "--version" => Some(texts::VERSION),
-        _ => None,
-    }
-}
-
-// Prints a text, and returns the status.
-fn print(rt: &HostRuntime, text: &str) -> ExitCode {
-    let Err(error) = rt.print(text) else {
-        return ExitCode::SUCCESS;
-    };
-    let file = STANDARD_OUTPUT;
-    tell(rt, PROGRAM, &Why::Failed { file, error });
-    ExitCode::from(7)
 }
 
 // Views the run whose files the last three words name, and returns the status. A file that cannot be
@@ -85,7 +52,7 @@ fn view_files(rt: &HostRuntime, words: &[String]) -> ExitCode {
     ];
     let stop = words_of(last_line(out.last_written()));
     if let Some(why) = why(status, stop, input_name, output_name, report_name, &errors) {
-        tell(rt, PROGRAM, &why);
+        tell(rt, PROGRAM.name, &why);
     }
     ExitCode::from(status)
 }
@@ -121,10 +88,4 @@ fn words_of(line: &str) -> &str {
         Some((_, reason)) => reason.strip_suffix("\"}").unwrap_or(reason),
         None => line,
     }
-}
-
-fn without_memory(rt: &HostRuntime) -> ExitCode {
-    let _ = rt.print("stop memory\n");
-    tell(rt, PROGRAM, &Why::Memory);
-    ExitCode::from(8)
 }

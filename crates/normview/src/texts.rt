@@ -32,6 +32,9 @@ the records that meet each of them are printed, and how many such records there 
   --notes       the notes on IN alone, and 10 if one says that IN may be bad; with no choice
   --table NAME  a table, its cells with tabs between them: records or eras; eras with no choice
 
+The notes are lost, order, half, one, card, wrong, twice, foreign, tagged, ipv6, tunnels, full and
+cut. Each has its counts, and says what to do or what is not judged: see normview(1).
+
 The line of a record has these parts; what a record lacks is left out:
 
   N TIME SIDE SRC:PORT > DST:PORT PROTO FLAGS seq S ack A window W type T code C
