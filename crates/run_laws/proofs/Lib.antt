@@ -1,4 +1,5 @@
 pub mod ReadBack
 pub mod Audits
 pub mod Traces
+pub mod Unsided
 pub mod Views

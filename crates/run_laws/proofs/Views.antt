@@ -5,7 +5,7 @@ use Rattle.wire_base.specs.declared.address.Link.{Link}
 use Rattle.pcap_file.specs.declared.head.Head.{Head}
 use Rattle.pcap_file.specs.Records.{Packet}
 use Rattle.pcap_file.specs.Capture.{IsCapture}
-use Rattle.capture_input.specs.Inputs.{TookAll}
+use Rattle.capture_input.specs.Inputs.{IsInput}
 use Rattle.rule_book.specs.declared.last.Last.TheVariants.{End}
 use Rattle.rule_book.specs.Text.{entry_text, last_text}
 use Rattle.norm_settings.specs.Settings.{AreInRange, PlainSettings}
@@ -30,7 +30,8 @@ use Rattle.run_view.specs.declared.form.Form.{Form}
 use Rattle.run_view.specs.declared.form.Form.TheVariants.{Both, Version2}
 use Rattle.run_view.proofs.Fates.{heads_one}
 use Rattle.run_laws.specs.ReadBack.{record_of, records_put}
-use Rattle.run_laws.specs.View.{FitsACapture, RunsAreViewedWhole}
+use Rattle.run_laws.specs.View.{FitsACapture, RunsAreViewedWhole, unsided}
+use Rattle.run_laws.proofs.Unsided.{input_unsided}
 use Rattle.run_laws.proofs.Traces.{AreGood, ViewLaws, frames_few, good, good_behind, good_written}
 
 -- ---- by one engine
@@ -43,7 +44,7 @@ unfolding frames_with
 with_long r frames = length-reverse (map (record_with r) frames) ∙ length-map frames (record_with r)
 
 abbrev line_one : Item → view.Item
-line_one item = record { packet = item.packet; entry = item.entry; frames = frames_with item.packet item.frames; first = None; owed = 0 }
+line_one item = record { packet = unsided item.packet; entry = item.entry; frames = frames_with item.packet item.frames; first = None; owed = 0 }
 
 abbrev items_one : List Item → List view.Item
 items_one [] = []
@@ -75,7 +76,7 @@ are_one (item ∷ older) good = (
 
 -- what the input, the output and the report have of these items
 record Shows (run : RunTrace) (outs : List Put) (items : List view.Item) : Type 0 where
-  records : packets_of items ≡ run_packets run
+  records : packets_of items ≡ map unsided (run_packets run)
   frames : frames_of items ≡ records_put outs
   text : lines_text (lines_of items) ≡ text_put outs
 
@@ -87,7 +88,7 @@ shows_one settings link (item ∷ older) =
     let before = shows_one settings link older in
     let out = item_written settings.mtu link item in
     record {
-      records = ap (λ ps. item.packet ∷ ps) before.records;
+      records = ap (λ ps. unsided item.packet ∷ ps) before.records;
       frames = ap (λ ws. reverse (map (record_with item.packet) out.frames) ++ ws) before.frames;
       text = ap (λ t. t ++ entry_text out.entry) before.text;
     }
@@ -98,12 +99,12 @@ shows_one settings link (item ∷ older) =
 abbrev lines_two : Item → (owed : ℕ) → List Item → List view.Item
 lines_two item owed [] = []
 lines_two item owed (answer ∷ answers) =
-    record { packet = item.packet; entry = answer.entry; frames = frames_with item.packet answer.frames; first = Some item.entry; owed = owed }
+    record { packet = unsided item.packet; entry = answer.entry; frames = frames_with item.packet answer.frames; first = Some item.entry; owed = owed }
     ∷ lines_two item (owed + 1) answers
 
 -- the line of the first
 abbrev line_first : Item → view.Item
-line_first item = record { packet = item.packet; entry = item.entry; frames = []; first = None; owed = length item.frames }
+line_first item = record { packet = unsided item.packet; entry = item.entry; frames = []; first = None; owed = length item.frames }
 
 abbrev items_two : (trace mirror : List Item) → List view.Item
 items_two [] mirror = []
@@ -124,13 +125,13 @@ module _ (item : Item) (rest : List view.Item) where
   seconds_on owed [] = omega arith
   seconds_on owed (answer ∷ answers) = omega (arith, seconds_on (owed + 1) answers)
 
-  newest_on : (owed : ℕ) (answers : List Item) (line : view.Item) → line.packet ≡ item.packet → line.first ≡ Some item.entry → IsOfNewest rest line
+  newest_on : (owed : ℕ) (answers : List Item) (line : view.Item) → line.packet ≡ unsided item.packet → line.first ≡ Some item.entry → IsOfNewest rest line
       → IsOfNewest (lines_two item owed answers ++ rest) line
   newest_on owed [] line packet first of = of
   newest_on owed (answer ∷ answers) line packet first of = (packet, first)
 
   are_on : (owed : ℕ) (answers back : List Item) → AreGood (answers ++ back) → owed + length answers ≡ owed_of rest
-      → ((line : view.Item) → line.packet ≡ item.packet → line.first ≡ Some item.entry → IsOfNewest rest line) → length (seconds rest) ≡ length back
+      → ((line : view.Item) → line.packet ≡ unsided item.packet → line.first ≡ Some item.entry → IsOfNewest rest line) → length (seconds rest) ≡ length back
       → AreItems Both rest → AreItems Both (lines_two item owed answers ++ rest)
   are_on owed [] back good same newest count are = are
   are_on owed (answer ∷ answers) back good same newest count are = (
@@ -252,7 +253,7 @@ shows_two (item ∷ older) mirror =
     let before = shows_two older back in
     let rest = line_first item ∷ items_two older back in
     record {
-      records = ap packets_in (firsts_on item rest 0 front) ∙ ap (λ ps. item.packet ∷ ps) before.records;
+      records = ap packets_in (firsts_on item rest 0 front) ∙ ap (λ ps. unsided item.packet ∷ ps) before.records;
       frames = frames_on item rest 0 front ∙ ap (λ ws. frames_with item.packet (answers_frames front) ++ ws) before.frames;
       text =
           text_on item rest 0 front ∙ append_assoc (lines_text (lines_of (items_two older back))) (entry_text item.entry) (answers_text front)
@@ -274,40 +275,46 @@ packets_long [] = refl
 packets_long (item ∷ older) = omega (arith, packets_long older)
 
 module _ (laws : ViewLaws) (settings : PlainSettings) (source' : Option (List ℕ)) (input held capture told report : List ℕ) (range : AreInRange settings)
-    (sideless : settings.inside ≡ None)
     (done : Normalized settings (Some input) source' (Some held) (Some (held ++ capture)) (Some told) (Some (told ++ report)))
     (small : FitsACapture settings done.head.link done.run) where
+  -- the files are those of a run of these records
+  abbrev Whole : Type 0
+  Whole = (run : AreOfARun input capture report) × (packets_of run.items ≡ map unsided (run_packets done.run))
+
   abbrev outs : List Put
   outs = puts settings done.head.link done.run
 
   files : (form : Form) (items : List view.Item) → run_heading settings.both ≡ heading form → AreItems form items → owed_of items ≡ 0
       → Shows done.run outs items
-      → AreOfARun input capture report
+      → Whole
   files form items first are none shows =
-      let whole : TookAll None (Some input) done.head (run_packets done.run) =
-      subst (λ inside. TookAll inside (Some input) done.head (run_packets done.run)) sideless done.whole in
+      let whole : IsInput None input done.head (map unsided (run_packets done.run)) =
+      input_unsided settings.inside input done.head (run_packets done.run) done.whole in
       let back = laws.read_back settings (Some input) source' (Some told) (Some (told ++ report)) held capture done in
       let few = small.frames in
       let frames : IsCapture capture done.head (records_put outs) = back.whole (omega (arith, few, put_long outs)) in
       let lines = append_cancel_left told report _ done.report_written in
-      let firsts_are : length (firsts items) ≡ length (run_packets done.run) = sym (packets_long (firsts items)) ∙ ap length shows.records in
-      let count_is : length (frames_of items) ≡ count_put outs = ap length shows.frames ∙ put_long outs in
-      record {
-        head = done.head;
-        written = done.head;
-        form = form;
-        items = items;
-        link_is = λ own has. ap (λ (h : Head). h.link) (heads_one input done.head own whole.walk has.walk [] has.rest whole.begins has.begins);
-        are = are;
-        none_owed = none;
-        records = subst (λ ps. TookAll None (Some input) done.head ps) (sym shows.records) whole;
-        frames = subst (IsCapture capture done.head) (sym shows.frames) frames;
-        lines = lines ∙ (λ i. (first i ++ sym shows.text i) ++ last_text (End (sym firsts_are i) (sym count_is i)));
-      }
+      let firsts_are : length (firsts items) ≡ length (run_packets done.run) =
+      sym (packets_long (firsts items)) ∙ ap length shows.records ∙ length-map (run_packets done.run) unsided in
+      let count_is : length (frames_of items) ≡ count_put outs = ap length shows.frames ∙ put_long outs in (
+        record {
+          head = done.head;
+          written = done.head;
+          form = form;
+          items = items;
+          link_is = λ own has. ap (λ (h : Head). h.link) (heads_one input done.head own whole.walk has.walk [] has.rest whole.begins has.begins);
+          are = are;
+          none_owed = none;
+          records = subst (IsInput None input done.head) (sym shows.records) whole;
+          frames = subst (IsCapture capture done.head) (sym shows.frames) frames;
+          lines = lines ∙ (λ i. (first i ++ sym shows.text i) ++ last_text (End (sym firsts_are i) (sym count_is i)));
+        },
+        shows.records,
+      )
 
   by_run : (run : RunTrace) → done.run ≡ run → LawfulRun settings done.head.link run → RunHasOctets settings run
       → length (run_packets run) ≤ 2 ^ 31 - 1
-      → count_put (puts settings done.head.link run) ≤ 2 ^ 32 - 1 → AreOfARun input capture report
+      → count_put (puts settings done.head.link run) ≤ 2 ^ 32 - 1 → Whole
   by_run (one trace) is lawful octets records frames =
       let sound : IsSound settings done.head.link trace = record { hops = range.hops; octets = octets.0; lawful = lawful.1 } in
       let long = length-map trace (λ (item : Item). item.packet) in
@@ -339,14 +346,15 @@ module _ (laws : ViewLaws) (settings : PlainSettings) (source' : Option (List �
       mirror_count (item ∷ older) =
           omega (arith, length-append (reverse item.frames) (frames_of_trace older), length-reverse item.frames, mirror_count older)
 
-  all_files : AreOfARun input capture report
+  all_files : Whole
   all_files = by_run done.run refl done.lawful done.octets small.records small.frames
 
 pub runs_viewed_whole : ViewLaws → RunsAreViewedWhole
-runs_viewed_whole laws settings source' input held capture told report range sideless done small =
-    let run = all_files laws settings source' input held capture told report range sideless done small in
+runs_viewed_whole laws settings source' input held capture told report range done small =
+    let run = all_files laws settings source' input held capture told report range done small in
     record {
-      files = run;
+      files = run.0;
+      records_are = run.1;
       returns = λ words asked before now status accepted files nothing. by words asked before now status accepted files nothing;
     }
   where
@@ -356,4 +364,4 @@ runs_viewed_whole laws settings source' input held capture told report range sid
     by words asked before now status accepted files nothing (inl fine) = inl fine
     by words asked before now status accepted files nothing (inr stopped) =
         inr (laws.viewed words before now status input capture report asked accepted files
-        (all_files laws settings source' input held capture told report range sideless done small) nothing stopped)
+        (all_files laws settings source' input held capture told report range done small).0 nothing stopped)

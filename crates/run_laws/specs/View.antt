@@ -1,10 +1,12 @@
 -- The view of what a finished run read and wrote (this project's profile).
-use Rattle.std.specs.Prelude.{◌≡◌, ◌⊎◌, ℕ, ◌-◌, ◌^◌, ◌≤◌, List, ◌++◌, length, Option, Some, None}
+use Rattle.std.specs.Prelude.{◌≡◌, ◌⊎◌, ℕ, ◌-◌, ◌^◌, ◌≤◌, List, ◌++◌, length, map, Option, Some, None}
 use Rattle.wire_base.specs.declared.address.Link.{Link}
+use Rattle.pcap_file.specs.Records.{Packet}
 use Rattle.norm_settings.specs.Settings.{AreInRange, PlainSettings}
 use Rattle.both_sides.specs.Puts.{count_put, puts}
 use Rattle.both_sides.specs.Runs.{RunTrace, packets_of}
 use Rattle.bridge_run.specs.Theorem.{Normalized}
+use Rattle.run_view.specs.Items.{packets_of as item_packets}
 use Rattle.run_view.specs.Laws.{AreOfARun, HasFiles, NothingFails}
 use Rattle.run_view.specs.Viewed.{IsToItsEnd, Moment, Stopped}
 use Rattle.run_view.specs.Words.{asked_in}
@@ -15,18 +17,23 @@ pub record FitsACapture (settings : PlainSettings) (link : Link) (run : RunTrace
   pub records : length (packets_of run) ≤ 2 ^ 31 - 1
   pub frames : count_put (puts settings link run) ≤ 2 ^ 32 - 1
 
--- Three files are those of a finished run, and a view of them returns 0 or 10, or 8 if memory could not be allocated, if its words are accepted and nothing
--- fails.
-pub record IsViewed (input output report : List ℕ) : Type 0 where
+-- a record without its side
+abbrev pub unsided : Packet → Packet
+unsided packet = record packet { side = None }
+
+-- Three files are those of a finished run of these records, and a view of them returns 0 or 10, or 8 if memory could not be allocated, if its words are
+-- accepted and nothing fails.
+pub record IsViewed (input output report : List ℕ) (records : List Packet) : Type 0 where
   pub files : AreOfARun input output report
+  pub records_are : item_packets files.items ≡ records
   pub returns : (words : List (List ℕ)) (asked : Asked) (before now : Moment) (status : ℕ) → asked_in words ≡ Some asked
       → HasFiles before input output report
       → NothingFails before now → IsToItsEnd status ⊎ Stopped words before now status → IsToItsEnd status ⊎ (status ≡ 8)
 
 -- This holds of the capture that a finished run read and of the two files that it wrote, after what they held before: by one engine, with an MTU or without,
--- and by two. The settings are in their ranges, and no inside interface is named.
+-- and by two. Where an inside interface is named, the view reads the same records without sides. The settings are in their ranges.
 abbrev pub RunsAreViewedWhole : Type 0
 RunsAreViewedWhole =
-    (settings : PlainSettings) (source' : Option (List ℕ)) (input held capture told report : List ℕ) → AreInRange settings → settings.inside ≡ None
+    (settings : PlainSettings) (source' : Option (List ℕ)) (input held capture told report : List ℕ) → AreInRange settings
     → (done : Normalized settings (Some input) source' (Some held) (Some (held ++ capture)) (Some told) (Some (told ++ report)))
-    → FitsACapture settings done.head.link done.run → IsViewed input capture report
+    → FitsACapture settings done.head.link done.run → IsViewed input capture report (map unsided (packets_of done.run))

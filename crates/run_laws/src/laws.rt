@@ -34,8 +34,8 @@ pub fn runs_are_audited_yes()
 
 /// Proves that the capture that a finished run read, and the capture and the report that it wrote,
 /// are those of one list of items, so that a view of them returns 0 or 10, or 8 if memory could not
-/// be allocated, if its words are accepted and nothing fails. `--both` and `--mtu` are covered,
-/// `--inside` is not.
+/// be allocated, if its words are accepted and nothing fails. All options are covered. The
+/// items have the records of the run, without the sides that `--inside` gives them.
 pub fn runs_are_viewed_whole()
     ensures { RunsAreViewedWhole }
 {

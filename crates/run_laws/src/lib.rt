@@ -6,9 +6,9 @@
 //! without these two options, whether it read a classic or a pcapng file, the only answer of an
 //! audit with as many routers is `yes`, if the report is not longer than an audit reads; so `audit`
 //! returns 0, or 8 if memory could not be allocated, unless a count of faults rose. The capture that
-//! a run read and the two files that it wrote, by one engine or by two, with `--mtu` or without, are
-//! those of one list of items, so `view` returns 0, 10 or 8 of them in the same way; a run with
-//! `--inside`, of more than 2^31 - 1 records or of more than 2^32 - 1 frames is not covered.
+//! a run read and the two files that it wrote, under whatever options, are those of one list of
+//! items, so `view` returns 0, 10 or 8 of them in the same way; a run of more than 2^31 - 1 records or
+//! of more than 2^32 - 1 frames is not covered.
 //!
 //! No program uses this crate.
 #![tactic(auto)]
