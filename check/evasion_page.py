@@ -12,7 +12,7 @@ from norm_model.fragment_rows import is_fragment
 from norm_model.hosts import READERS, fields
 from norm_model.packets import INSIDE, LETTERS, capture_of, ipv4, segment
 from norm_model.receivers import POLICIES, all_agree, deliver
-from norm_model.report import read_report
+from norm_model.report import frames_by_entry, read_report
 
 TOP = os.path.dirname(os.path.dirname(os.path.abspath(__file__)))
 
@@ -166,11 +166,7 @@ def frames_of(case, report, written):
     packets = [record.octets for record in read_records(written, head)[0]]
     if written != capture_of(packets) or len(packets) != sum(entry.packets for entry in read.entries):
         raise ValueError("the written capture has other heads, times or records than the report tells")
-    frames, rest = [], packets
-    for entry in read.entries:
-        frames.append(rest[:entry.packets])
-        rest = rest[entry.packets:]
-    return frames
+    return frames_by_entry(read.entries, packets)
 
 
 def ends_of(packet):

@@ -8,7 +8,7 @@ from norm_model.formats import four
 from norm_model.hosts import TIMESTAMPS, timestamp
 from norm_model.packets import LETTERS, capture_of, segment
 from norm_model.receivers import POLICIES, deliver
-from norm_model.report import read_report
+from norm_model.report import frames_by_entry, read_report
 
 MONITORS = os.path.join(os.path.dirname(DESCRIPTIONS), "monitors.txt")
 
@@ -86,11 +86,7 @@ def frames_of(case, report, written):
         packet.second = record.seconds
     if [entry.number for entry in read.entries] != list(range(1, len(case.lines) + 1)) or len(packets) != sum(entry.packets for entry in read.entries):
         raise ValueError("the report has other records or frames than the captures")
-    frames = []
-    for entry in read.entries:
-        frames.append(packets[:entry.packets])
-        packets = packets[entry.packets:]
-    return frames
+    return frames_by_entry(read.entries, packets)
 
 
 def stream_of(host, packets):

@@ -1,9 +1,11 @@
 """Views worked by hand of what was not judged, of notes on lines that no run has, and of the words of notes."""
 
+import both_view_rows  # noqa: F401
+import edge_view_rows  # noqa: F401
 from norm_model.formats import TCP, UDP, pseudo_sum, two
 from norm_model.packets import INSIDE, OUTSIDE, capture_of, inward, ipv4, opening, segment, udp
 from norm_model.sentences import ADVICE
-from note_rows import GRE, LOST, ONE_FLOW, answer, asked, data, ethernets, held, left, no_notes, notes
+from note_rows import GRE, LOST, MIDDLE, ONE_FLOW, answer, asked, data, ethernets, held, left, no_notes, notes
 from view_rows import EPOCH, ERA, RECORD, ROWS, SUMMARY, as_json, counted, counts, ethernet, fragments, row
 
 __all__ = ["ROWS"]
@@ -85,6 +87,12 @@ odd("a fragment without a rule", [HELD_ONE, ("pass 1", PART)], 1, (1, 0, 1, 0), 
 
 odd("a packet that is no fragment is not held", [("hold 1 F_HELD", PLAIN)], 0, (0, 0, 1, 0), [("F_HELD", 1)])
 
+NO_TYPES = ethernets([ethernet(b"", b"\x88\xcc"), ethernet(b"", b"\x88\xcc")[:13]])
+
+row("types of 14 octets, and no type of 13", NO_TYPES, "",
+    ["records 2", *NONE[:2], "- pass 0 fix 0 hold 0 drop 2", "frames 0", "type 0x88cc 1", counted("L_TYPE", 2), NO_ERAS],
+    files=[NO_TYPES, NO_TYPES[:24], b"norm 2\n1 - drop 0 L_TYPE\n2 - drop 0 L_TYPE\nend 2 0\n"])
+
 NO_ERA = {"all": 0, "live": 0, "reset": 0, "evicted": 0, "idle": 0, "reopened": 0, "opened_in": 0, "opened_out": 0, "opened_mid": 0}
 
 AT = {"event": "record", "by": "first", "time": EPOCH, "seconds": 0, "nanoseconds": 0, "ended": [], "frames": 0, "changes": []}
@@ -93,7 +101,8 @@ row("three things of a summary as JSON", ethernets([ethernet(bytes(40), b"\x86\x
     [as_json(RECORD, **AT, record=1, number=1, ethertype="0x86dd", length=40, verdict="drop", rules=["L_TYPE"]),
      as_json(RECORD, **AT, record=2, number=2, ethertype="0x0000", length=2, verdict="drop", rules=["L_TYPE"]),
      as_json(SUMMARY, event="summary", records=2, **{"in": counts()}, out=counts(), neither=counts(drop=2), frames=0, unfinished=0,
-             types=[{"type": "0x86dd", "count": 1}, {"type": "0x0000", "count": 1}], protocols=[], rules=[{"rule": "L_TYPE", "in": 0, "out": 0, "neither": 2}],
+             types=[{"type": "0x86dd", "count": 1}, {"type": "0x0000", "count": 1}], protocols=[],
+             rules=[{"rule": "L_TYPE", "in": 0, "out": 0, "neither": 2}],
              eras=NO_ERA)])
 
 PING = {"src_ip": "198.51.100.7", "dest_ip": "10.0.0.1"}
@@ -105,6 +114,27 @@ row("the others of them as JSON", capture_of([inward(2, b"ab"), held(1, 8)[0]]),
      as_json(SUMMARY, event="summary", records=2, **{"in": counts(0, 0, 1, 1)}, out=counts(), neither=counts(), frames=0, unfinished=1, types=[],
              protocols=[{"protocol": 2, "count": 1}],
              rules=[{"rule": rule, "in": 1, "out": 0, "neither": 0} for rule in ("P_PROTO", "F_HELD")], eras=NO_ERA)])
+
+
+# Streams
+
+notes("an acknowledgment that comes twice leaves one gap",
+      opening() + [one for n in range(0, 12, 4) for one in (answer(1004 + n, ident=0), answer(1004 + n, ident=0), data(1000 + n, "abcd", ident=0))],
+      ["note order gaps 3:"])
+
+no_notes("three connections in order",
+         [one for port in (1, 2, 3) for one in (
+             segment("> S 999", outside_port=port), segment("< SA 5000,1000", outside_port=port), segment("> A 1000,5001", outside_port=port),
+             data(1000, "abcd", outside_port=port), answer(1004, outside_port=port))])
+
+notes("a segment behind the stream, and just near enough", opening() + [data(1000 - 2**30, "abcd"), data(1004, "efgh"), answer(1008)], LOST)
+
+no_notes("one that is too far behind it counts its octets", opening() + [data(999 - 2**30, "abcd"), data(1004, "efgh"), answer(1008)])
+
+notes("a stream begins in its midst with octets", [answer(1000, "ab", 5001), answer(1000, "ef", 5005), data(1000, "", 5007)],
+      ["note lost in 0 out 2:", *MIDDLE])
+
+notes("it begins with a keep-alive, one octet before the next one", [answer(1000, "", 5001), answer(1000, "ab", 5002), data(1000, "", 5004)], MIDDLE)
 
 
 # Lines that no run has

@@ -4,7 +4,7 @@ import os
 from types import SimpleNamespace
 
 from norm_model.formats import ICMP, TCP, UDP
-from norm_model.packets import (INSIDE, OUTSIDE, address, capture_of, head, icmp, icmp_error, inward, ipv4, opening, outward, record, segment, tcp,
+from norm_model.packets import (INSIDE, OUTSIDE, address, capture_of, head, icmp, icmp_error, inward, ipv4, opening, outward, record, segment,
                                 udp)
 
 TOP = os.path.dirname(os.path.dirname(os.path.abspath(__file__)))

@@ -225,7 +225,7 @@ def not_judged(records, value, link):
     held = sum("F_HELD" in one["rules"] for one in firsts)
     assert 0 <= value["unfinished"] <= held, "more unfinished fragments than are held"
     frames = [one for one in firsts if "L_TYPE" in one["rules"] and link == ETHERNET]
-    types = [2054 if one["ethertype"] == "arp" else int(one["ethertype"] or "0800", 16) for one in frames if one["ethertype"] or one["src_ip"]]
+    types = [2054 if one["ethertype"] == "arp" else int(one["ethertype"], 16) for one in frames if one["ethertype"]]
     packets = [one for one in firsts if "P_PROTO" in one["rules"] and one["proto"]]
     numbers = [{"icmp": 1, "tcp": 6, "udp": 17}.get(one["proto"]) or int(one["proto"]) for one in packets]
     lines = ["unfinished %d" % value["unfinished"]] if value["unfinished"] else []

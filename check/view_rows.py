@@ -3,12 +3,17 @@
 import json
 from types import SimpleNamespace
 
-from norm_model.formats import ICMP, TCP, UDP, read_ipv4
+from norm_model.built import WHOLE
+from norm_model.formats import ICMP, UDP, read_ipv4
 from norm_model.packets import INSIDE, OUTSIDE, capture_of, head, icmp, inward, ipv4, opening, outward, record, segment, udp
 from norm_model.rule_names import RULES
+from norm_model.run import run
 from norm_model.sentences import ADVICE, SENTENCES
 
 ROWS = []
+
+# The names of the three files among the words of a view.
+FILES = ["IN", "OUT", "REPORT"]
 
 EPOCH = "1970-01-01T00:00:00.000000000Z"
 
@@ -19,12 +24,23 @@ BACK = "10.0.0.1:80 > 198.51.100.7:40000"
 PAIR = "198.51.100.7:40000 <-> 10.0.0.1:80"
 
 
-def row(name, octets, words, lines, options="", status=0, report=None):
-    """In the lines RULE: is the rule with its sentence, and EPOCH the time of a record. `report`: its lines, in place of those of the run."""
+def row(name, octets, words, lines, options="", status=0, report=None, files=None, names=FILES):
+    """In the lines RULE: is the rule with its sentence, and EPOCH the time of a record. `report`: its lines, in place of those of the run. `files`:
+    all three, of which one that is None is not there."""
     for rule in RULES:
         lines = [line.replace(rule + ":", "%s (%s)" % (rule, SENTENCES[rule])) for line in lines]
-    ROWS.append(SimpleNamespace(name=name, octets=octets, options=options.split(), words=words.split(), status=status, report=report,
-                                text="".join(line.replace("EPOCH", EPOCH) + "\n" for line in lines)))
+    ROWS.append(SimpleNamespace(name=name, octets=octets, options=options.split(), words=words.split() + names, status=status, report=report,
+                                files=files, text="".join(line.replace("EPOCH", EPOCH) + "\n" for line in lines)))
+
+
+def files_of(row):
+    """The three files of a row: where it has a report of its own, all records are in OUT."""
+    if row.files is not None:
+        return row.files
+    if row.report is not None:
+        return [row.octets, row.octets, "".join(line + "\n" for line in row.report).encode()]
+    _, written, report = run(["run"] + row.options + ["a", "b", "10.0.0.0/8"], row.octets, WHOLE)
+    return [row.octets, written, report.encode()]
 
 
 def fragments(packet, at):
@@ -306,10 +322,14 @@ row("a datagram as JSON", head(link=1) + record(ARP), "--json --rule=F_DONE",
              rules=["F_DONE"], frames=1, out=[1], changes=[made(1, "datagram", 28)]), '{"event":"chosen","records":1}'],
     report=["norm 2", "1 - fix 1 F_DONE", "end 1 1"])
 
-# Both sides protected
+# Summaries
 
 def counts(passed=0, fix=0, hold=0, drop=0):
     return {"pass": passed, "fix": fix, "hold": hold, "drop": drop}
+
+
+def counted(rule, times):
+    return "rule %s %d (%s)" % (rule, times, SENTENCES[rule])
 
 
 LIVE = {"all": 2, "live": 2, "reset": 0, "evicted": 0, "idle": 0, "reopened": 0, "opened_in": 2, "opened_out": 0, "opened_mid": 0}
@@ -320,19 +340,6 @@ SYN = dict(AT_EPOCH, **ENDS, event="record", record=1, number=1, flags="S", seq=
 FIRST_ERA = dict(event="era", era=1, outside_ip="198.51.100.7", outside_port=40000, inside_ip="10.0.0.1", inside_port=80, opened="in", first=EPOCH,
                  first_seconds=0, first_nanoseconds=0, last=EPOCH, last_seconds=0, last_nanoseconds=0, records=1, sent=0, end="live")
 
-row("one record of both engines as JSON", capture_of(opening()[:1]), "--json",
-    [as_json(RECORD, **SYN, by="first", side="in", given=1), as_json(RECORD, **SYN, by="second", side="out", out=[1]),
-     as_json(SUMMARY, **NOTHING_ELSE, event="summary", records=1, **{"in": counts(1)}, out=counts(), neither=counts(), second_in=counts(),
-             second_out=counts(1), second_neither=counts(), frames=1, rules=[], eras=LIVE),
-     as_json(ERA, **FIRST_ERA, by="first", rules=[]), as_json(ERA, **FIRST_ERA, by="second", rules=[])], options="--both")
-
-row("the same as a table", capture_of(opening()[:1]), "--table records",
-    ["\t".join(RECORD[1:])] + [as_row(RECORD, **{name: value for name, value in SYN.items() if value != []}, **more) for more in (
-        {"by": "first", "side": "in", "given": 1}, {"by": "second", "side": "out", "out": 1})], options="--both")
-
-row("its eras as a table", capture_of(opening()[:1]), "--table eras",
-    ["\t".join(ERA[1:])] + [as_row(ERA, **FIRST_ERA, by=by) for by in ("first", "second")], options="--both")
-
 row("the summary of one engine as JSON", FLOOD, "--json",
     [as_json(RECORD, **{**SYN, "record": number, "number": number, "src_port": port, "era": number, "begun": number, "ended": ended}, by="first",
              side="in", out=[number])
@@ -342,169 +349,7 @@ row("the summary of one engine as JSON", FLOOD, "--json",
     + [as_json(ERA, **{**FIRST_ERA, "era": number, "outside_port": port, **more}, by="first", rules=[])
        for number, port, more in ((1, 40000, {"end": "evicted", "octets": 0}), (2, 40001, {}), (3, 40002, {}))], options="--flows 2")
 
-
-def sides(first, second):
-    """The lines of sides of both engines, from their counts as pass, fix, hold and drop."""
-    names = ["in", "out", "-", "second in", "second out", "second -"]
-    return ["%s pass %d fix %d hold %d drop %d" % ((name,) + counts) for name, counts in zip(names, first + second)]
-
-
-def counted(rule, times):
-    return "rule %s %d (%s)" % (rule, times, SENTENCES[rule])
-
-
-row("the summary of both engines", BOTH, "",
-    ["records 5"] + sides([(2, 0, 0, 0), (3, 0, 0, 0), (0, 0, 0, 0)], [(2, 1, 0, 0), (2, 0, 0, 0), (0, 0, 0, 0)])
-    + ["frames 5", counted("T_CLASH", 1), "eras 2 live 2 reset 0 evicted 0 idle 0 reopened 0 opened in 2 out 0 mid 0",
-       "era 1 " + PAIR + " opened in EPOCH EPOCH records 5 sent 0 live", "era second 1 " + PAIR
-       + " opened in EPOCH EPOCH records 5 sent 8 live T_CLASH"],
-    options="--both")
-
-WAYS = capture_of(opening() + [segment("> PA 1000,5001 abcd"), segment("< PA 5001,1004 xyz"), segment("< RA 5004,1004"), ethernet(b"")])
-
-row("octets either way, and records without a side", WAYS, "",
-    ["records 7"] + sides([(3, 0, 0, 0), (3, 0, 0, 0), (0, 0, 0, 1)], [(2, 1, 0, 0), (3, 0, 0, 0), (0, 0, 0, 0)])
-    + ["frames 7", counted("C_PROBE", 1), counted("I_SHORT", 1), "eras 2 live 1 reset 1 evicted 0 idle 0 reopened 0 opened in 2 out 0 mid 0",
-       "era 1 " + PAIR + " opened in EPOCH EPOCH records 6 sent 4 octets 4 reset", "era second 1 " + PAIR
-       + " opened in EPOCH EPOCH records 6 sent 3 live C_PROBE"],
-    options="--both")
-
-WHOLE_RESET = ["5 EPOCH in " + LATER + "tcp id 1 offset 16 len 12 fix era 1 F_DONE: T_STRIP: C_PROBE: given 2",
-               "5/4 EPOCH out " + LATER + "tcp len 12 pass era 1 ends era 1 reset octets 0 frames 1 out 4; "
-               "frame 1 datagram tcp R seq 1000 ack 0 len 0, compared with no record",
-               "5/5 EPOCH out " + LATER + "tcp len 12 pass era 2 begins era 2 frames 1 out 5; frame 1 probe tcp A seq 999 ack 5001 len 0", "chosen 1"]
-
-row("a reset and its probe in the second engine", capture_of(RESET), "--only pass --era second:2", WHOLE_RESET, options="--both")
-
-row("by a rule of the first engine and a verdict of the second", capture_of(RESET), "--rule C_PROBE --only pass", WHOLE_RESET, options="--both")
-
-row("no era of the first engine", capture_of(RESET), "--era 2", ["chosen 0"], options="--both")
-
-row("no second engine", capture_of(RESET), "--era second:1", ["chosen 0"])
-
-row("the sides of the first engine, and an era of each", capture_of(RESET), "--era 1 --side out",
-    ["2 EPOCH out " + BACK + " tcp SA seq 5000 ack 1000 len 0 pass era 1 given 1", "2/2 EPOCH in " + BACK
-     + " tcp SA seq 5000 ack 1000 len 0 pass era 1 frames 1 out 2", "chosen 1"],
-    options="--both")
-
-row("a segment outwards that is probed for", capture_of([segment("< PA 5001,1000 ab")]), "--only fix",
-    ["1 EPOCH out " + BACK + " tcp PA seq 5001 ack 1000 len 2 pass era 1 begins era 1 given 1",
-     "1/1 EPOCH in " + BACK + " tcp PA seq 5001 ack 1000 len 2 fix C_PROBE: frames 1 out 1; frame 1 probe tcp A seq 5000 ack 1000 len 0", "chosen 1"],
-    options="--both")
-
-row("a probe of the first engine in the place of a segment", EARLY, "--rule T_STATE",
-    ["2 EPOCH in " + THERE + " tcp PA seq 1000 ack 5001 len 2 drop era 1 T_STATE: given 1",
-     "2/2 EPOCH out " + THERE + " tcp PA seq 1000 ack 5001 len 2 pass era 1 frames 1 out 2; frame 1 probe tcp A seq 999 ack 5001 len 0",
-     "chosen 1"], options="--both")
-
-row("a probe of the second engine in the place of a segment", capture_of([segment("< S 5000"), segment("< PA 5001,1000 ab")]), "--only drop",
-    ["2 EPOCH out " + BACK + " tcp PA seq 5001 ack 1000 len 2 pass era 1 given 1",
-     "2/2 EPOCH in " + BACK + " tcp PA seq 5001 ack 1000 len 2 drop era 1 T_STATE: frames 1 out 2; frame 1 probe tcp A seq 5000 ack 1000 len 0",
-     "chosen 1"],
-    options="--both")
-
-row("eras of both engines that the inside host begins", capture_of([segment("< S 5000")]), "",
-    ["records 1"] + sides([(0, 0, 0, 0), (1, 0, 0, 0), (0, 0, 0, 0)], [(1, 0, 0, 0), (0, 0, 0, 0), (0, 0, 0, 0)])
-    + ["frames 1", "eras 2 live 2 reset 0 evicted 0 idle 0 reopened 0 opened in 0 out 2 mid 0", "era 1 " + PAIR
-       + " opened out EPOCH EPOCH records 1 sent 0 live",
-       "era second 1 " + PAIR + " opened out EPOCH EPOCH records 1 sent 0 live"], options="--both")
-
-# Reports of both engines that no run wrote
-
 THREE = capture_of(opening())
-
-LINES = ["norm 2 both", "1 in pass 1 @1 +1", "/1 out pass 1 @1 +1", "2 out pass 1 @1", "/2 in pass 1 @1", "3 in pass 1 @1", "/3 out pass 1 @1",
-         "end 3 3"]
-
-
-def broken(name, lines, at):
-    """Nothing is printed but that this line may not be there."""
-    row(name, THREE, "", ["stop report %d" % at], status=9, report=lines)
-
-
-broken("no first version of both", ["norm 1 both"] + LINES[1:], 1)
-broken("a line of the second engine in a report of one", ["norm 2"] + LINES[1:], 3)
-broken("a line of the second engine is missing", LINES[:4] + LINES[5:], 5)
-broken("the last line of the second engine is missing", LINES[:6] + LINES[7:], 7)
-broken("one line of the second engine too many", LINES[:5] + ["/3 in pass 1 @1"] + LINES[5:], 6)
-broken("a line of the second engine twice", LINES[:3] + LINES[2:], 4)
-broken("a number of the second engine left out", LINES[:4] + ["/3 in pass 1 @1"] + LINES[5:], 5)
-broken("numbers of the second engine by record", LINES[:2] + ["/0 out pass 1 @1 +1"] + LINES[3:], 3)
-broken("a line of the first engine where one of the second is missing", LINES[:2] + ["1 out pass 1 @1 +1"] + LINES[3:], 3)
-broken("a line of the second engine where one of the first is missing", LINES[:3] + LINES[4:], 4)
-broken("the last line too early", LINES[:6] + ["end 3 2"], 7)
-broken("the last line before all", LINES[:1] + ["end 3 3"], 2)
-broken("no last line behind the second engine's", LINES[:7], 8)
-broken("a last line of the second engine", LINES[:7] + ["/end 3 3"], 8)
-broken("a line with two slashes", LINES[:2] + ["//1 out pass 1 @1 +1"] + LINES[3:], 3)
-broken("a space behind the slash", LINES[:2] + ["/ 1 out pass 1 @1 +1"] + LINES[3:], 3)
-broken("an era that ended without octets", LINES[:6] + ["/3 out pass 1 @1 -1:reset"] + LINES[7:], 7)
-broken("frames of the first engine counted at the end", LINES[:6] + ["/3 out pass 0 @1", "end 3 3"], 8)
-broken("a line behind the last one", LINES + ["/4 out pass 1"], 9)
-
-row("a record with a line that is none is not printed", THREE, "--only pass",
-    ["1 EPOCH in " + THERE + " tcp S seq 999 ack 0 len 0 pass era 1 begins era 1 given 1",
-     "1/1 EPOCH out " + THERE + " tcp S seq 999 ack 0 len 0 pass era 1 begins era 1 frames 1 out 1",
-     "stop report 5"], status=9, report=LINES[:4] + LINES[5:])
-
-row("a stop as JSON", THREE, "--era=4294967295 --json", ['{"event":"stop","status":9,"reason":"stop report 5"}'], status=9, report=LINES[:4]
-    + LINES[5:])
-
-row("a stop in a table", THREE, "--table records --side out", ["\t".join(RECORD[1:]), "stop report 5"], status=9, report=LINES[:4] + LINES[5:])
-
-row("a stop in a table of eras", THREE, "--table eras", ["stop report 5"], status=9, report=LINES[:4] + LINES[5:])
-
-row("a stop before a table", THREE, "--table records", ["stop report 1"], status=9, report=["norm 1 both"] + LINES[1:])
-
-row("a stop behind the first line of a report", THREE, "--table records", ["\t".join(RECORD[1:]), "stop report 2"], status=9, report=LINES[:1])
-
-row("a run of both engines that stopped", THREE, "", ["stop report 8"], status=9, report=LINES[:7] + ["stop cut 136"])
-
-row("no frame of the second engine", THREE, "", ["no frame 4"], status=1, report=LINES[:6] + ["/3 out pass 2 @1", "end 3 4"])
-
-row("a frame too many of the second engine", THREE, "", ["no frame 3"], status=1, report=LINES[:6] + ["/3 out pass 0 @1", "end 3 2"])
-
-row("a record too many of both engines", THREE, "", ["no record 3"], status=1, report=LINES[:5] + ["end 2 2"])
-
-row("no record of both engines", THREE, "", ["no record 4"], status=1, report=LINES[:7] + ["4 in drop 0 T_SYN", "end 4 3"])
-
-row("frames of one line of the second engine", THREE, "--only fix",
-    ["1 EPOCH in " + THERE + " tcp S seq 999 ack 0 id 1 offset 0 len 0 fix F_DONE: C_PROBE: given 2",
-     "1/1 EPOCH in " + THERE + " tcp S seq 999 ack 0 len 0 fix C_PROBE: frames 2 out 1-2; "
-     "frame 1 datagram tcp S seq 999 ack 0 len 0, compared with no record; frame 2 probe tcp SA seq 5000 ack 1000 len 0",
-     "1/2 EPOCH - " + THERE + " tcp S seq 999 ack 0 len 0 fix T_OLD: frames 1 out 3; frame 1 probe tcp A seq 1000 ack 5001 len 0", "chosen 1"],
-    report=["norm 2 both", "1 in fix 2 F_DONE C_PROBE", "/1 in fix 2 C_PROBE", "/2 - fix 1 T_OLD", "2 out hold 0 F_HELD", "3 out drop 0 T_SYN",
-            "end 3 3"])
-
-row("frames of a record that the first engine dropped", THREE, "--only fix",
-    ["1 EPOCH in " + THERE + " tcp S seq 999 ack 0 id 1 offset 0 len 0 drop T_SYN: F_DONE: given 2",
-     "1/1 EPOCH in " + THERE + " tcp S seq 999 ack 0 id 1 offset 0 len 0 fix F_DONE: frames 2 out 1-2; frame 1 probe tcp S seq 999 ack 0 len 0; "
-     "frame 2 probe tcp SA seq 5000 ack 1000 len 0",
-     "1/2 EPOCH - " + THERE + " tcp S seq 999 ack 0 len 0 fix T_OLD: frames 1 out 3; frame 1 probe tcp A seq 1000 ack 5001 len 0", "chosen 1"],
-    report=["norm 2 both", "1 in drop 2 T_SYN F_DONE", "/1 in fix 2 F_DONE", "/2 - fix 1 T_OLD", "2 out hold 0 F_HELD", "3 out drop 0 T_SYN",
-            "end 3 3"])
-
-row("frames that the second engine dropped", THREE, "--rule T_STATE",
-    ["1 EPOCH in " + THERE + " tcp S seq 999 ack 0 id 1 offset 0 len 0 fix F_DONE: given 2",
-     "1/1 EPOCH out " + THERE
-     + " tcp S seq 999 ack 0 id 1 offset 0 len 0 drop F_DONE: T_STATE: frames 1 out 1; frame 1 probe tcp S seq 999 ack 0 len 0",
-     "1/2 EPOCH in " + THERE + " tcp S seq 999 ack 0 len 0 fix T_STATE: frames 1 out 2; "
-     "frame 1 datagram tcp SA seq 5000 ack 1000 len 0, compared with no record",
-     "2 EPOCH out " + BACK + " tcp SA seq 5000 ack 1000 len 0 fix given 1",
-     "2/3 EPOCH in " + BACK + " tcp SA seq 5000 ack 1000 len 0 drop T_STATE: frames 1 out 3; frame 1 probe tcp A seq 1000 ack 5001 len 0",
-     "chosen 2"],
-    report=["norm 2 both", "1 in fix 2 F_DONE", "/1 out drop 1 F_DONE T_STATE", "/2 in fix 1 T_STATE", "2 out fix 1", "/3 in drop 1 T_STATE",
-            "3 out drop 0 T_SYN", "end 3 3"])
-
-row("eras of both engines that no run has", THREE, "",
-    ["records 3"] + sides([(1, 0, 0, 0), (0, 0, 0, 1), (0, 0, 0, 1)], [(2, 0, 0, 0), (0, 0, 0, 0), (0, 0, 0, 0)])
-    + ["frames 3", "eras 5 live 3 reset 1 evicted 0 idle 1 reopened 0 opened in 1 out 0 mid 1", "era 7 " + PAIR
-       + " opened in EPOCH EPOCH records 1 sent 0 live",
-       "era 3 - <-> - - - records 0 sent 0 octets 5 idle", "era 2 - <-> - EPOCH EPOCH records 1 sent 0 live",
-       "era second 7 - <-> - - - records 0 sent 0 octets 18446744073709551615 reset",
-       "era second 3 198.51.100.7:40000 <-> 10.0.0.1:80 opened mid EPOCH EPOCH records 1 sent 0 live"],
-    report=["norm 2 both", "1 in pass 2 @7 +7", "/1 in pass 1 -7:reset:18446744073709551615", "/2 in pass 2 @3 +3", "2 out drop 0 -3:idle:5",
-            "3 - drop 0 @2", "end 3 3"])
 
 row("an era without a side that two records begin, and rules of each side", THREE, "",
     ["records 3", "in pass 0 fix 0 hold 0 drop 1", "out pass 0 fix 0 hold 0 drop 1", "- pass 0 fix 1 hold 0 drop 0", "frames 3", counted("T_SYN", 4),

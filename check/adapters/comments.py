@@ -1,10 +1,9 @@
 """contrib/norm-comments: tshark reads back the lines of normview for exactly the records that the report does not pass, and the records are those of IN."""
 
-import itertools
 import os
 import re
 
-from adapters.common import CONTRIB, Test, example_runs, normed, other_records, random_runs, run, write
+from adapters.common import CONTRIB, Test, few_runs, normed, other_records, run, write
 from norm_model.packets import capture_of, opening, segment
 from programs import TOP
 
@@ -23,6 +22,11 @@ def commented(asked, folder, one):
         os.symlink(asked.normview, os.path.join(programs, "normview"))
     words = ["env", "PATH=%s:%s" % (programs, os.environ["PATH"]), PROGRAM, one.given, one.out, one.report, target]
     return run(words, folder), target
+
+
+def comments_in(folder, path, *words):
+    """The comments of each record, as tshark prints them."""
+    return run(["tshark", "-r", path, "-T", "fields", *words, "-e", "frame.comment"], folder).stdout.decode().splitlines()
 
 
 def classic(folder, path):
@@ -57,7 +61,7 @@ def as_shown(comment):
 def compare_run(test, asked, folder, one):
     done, target = commented(asked, folder, one)
     test.same("%s: status" % one.name, (0, b""), (done.returncode, done.stderr))
-    shown = run(["tshark", "-r", target, "-T", "fields", "-e", "frame.comment"], folder).stdout.decode().splitlines()
+    shown = comments_in(folder, target)
     wanted = [lines if any(line[2] != "pass" for line in lines) else [] for lines in lines_by_record(one.text)]
     test.same("%s: number of records" % one.name, len(wanted), len(shown))
     for number, (lines, comment) in enumerate(zip(wanted, shown), 1):
@@ -70,7 +74,7 @@ def test_comments(asked, folder):
     if test.lacks("tshark", "editcap"):
         return test
     before = None
-    for one in itertools.chain(example_runs(asked, folder), itertools.islice(random_runs(asked, folder, (0,)), max(1, asked.count // ONE_OF))):
+    for one in few_runs(asked, folder, ONE_OF):
         compare_run(test, asked, folder, one)
         if other_records(one, before):
             one.report = write(os.path.join(folder, "other.txt"), before.text.encode())
@@ -91,7 +95,7 @@ def test_batches(asked, folder):
     report = write(os.path.join(folder, "many.txt"), "".join(lines).encode())
     one = type("Run", (), {"given": given, "out": write(os.path.join(folder, "none.pcap"), capture_of([])), "report": report})
     done, target = commented(asked, folder, one)
-    shown = run(["tshark", "-r", target, "-T", "fields", "-e", "frame.comment"], folder).stdout.decode().splitlines()
+    shown = comments_in(folder, target)
     test.same("status", 0, done.returncode)
     test.same("comments", [str(number) for number in range(1, count + 1)], [comment.split(" ", 1)[0] for comment in shown])
     return test
@@ -105,7 +109,7 @@ def test_long(asked, folder):
     octets = capture_of([*opening(60000), segment("> PA 1000,5001 " + "a" * 30000), segment("> PA 1000,5001 " + "ab" * 15000)])
     one = normed(asked, folder, "long", write(os.path.join(folder, "long.pcap"), octets))
     done, target = commented(asked, folder, one)
-    shown = run(["tshark", "-r", target, "-T", "fields", "-e", "frame.comment"], folder).stdout.decode().splitlines()
+    shown = comments_in(folder, target)
     test.same("status", 0, done.returncode)
     test.same("the report", True, "5 in fix 1 T_CLASH @1\n" in one.text)
     last = shown[-1] if shown else ""
@@ -121,7 +125,7 @@ def test_kept(asked, folder):
     given = os.path.join(folder, "kept.pcapng")
     run(["editcap", "-F", "pcapng", "-a", "4:of record 4", "-a", "5:of record 5", os.path.join(TOP, "examples", "overlap.pcap"), given], folder)
     done, target = commented(asked, folder, normed(asked, folder, "kept", given))
-    shown = run(["tshark", "-r", target, "-T", "fields", "-E", "aggregator=|", "-e", "frame.comment"], folder).stdout.decode().splitlines()
+    shown = comments_in(folder, target, "-E", "aggregator=|")
     test.same("status", 0, done.returncode)
     test.same("comments", ["", "", "", "of record 4", "of record 5|5 "], [comment[:14] for comment in shown])
     return test

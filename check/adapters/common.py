@@ -1,6 +1,7 @@
 """What the tests of the adapters share: runs to try them on, programs that are run, and faults that are counted."""
 
 import glob
+import itertools
 import os
 import shutil
 import subprocess
@@ -86,3 +87,8 @@ def random_runs(asked, folder, statuses=(0, 4)):
         for path in (one.given, one.out, one.report):
             if os.path.exists(path):
                 os.remove(path)
+
+
+def few_runs(asked, folder, one_of, *variants):
+    """Runs on the examples, and one of so many of the random runs to the end that are asked for."""
+    return itertools.chain(example_runs(asked, folder, *variants), itertools.islice(random_runs(asked, folder, (0,)), max(1, asked.count // one_of)))

@@ -1,14 +1,13 @@
 """contrib/plots/timeline: its pictures name each rule and era of the run; the octets that it counts as written are those that were sent in the eras, as normview has
 them."""
 
-import itertools
 import json
 import os
 import re
 import subprocess
 import xml.etree.ElementTree
 
-from adapters.common import CONTRIB, Test, example_runs, normed, random_runs, run, write
+from adapters.common import CONTRIB, Test, few_runs, normed, run, write
 from norm_model.packets import capture_of, opening, segment
 
 PROGRAM = os.path.join(CONTRIB, "plots", "timeline")
@@ -75,7 +74,7 @@ def test_timeline(asked, folder):
         return test
     name = os.path.join(folder, "picture")
     view = [asked.normview, "--json"]
-    for one in itertools.chain(example_runs(asked, folder, ([], ["--both"])), itertools.islice(random_runs(asked, folder, (0,)), max(1, asked.count // ONE_OF))):
+    for one in few_runs(asked, folder, ONE_OF, ([], ["--both"])):
         octets = run([*view, one.given, one.out, one.report], folder).stdout
         test.same("%s: status" % one.name, 0, run([python, PROGRAM, name], folder, input=octets).returncode)
         compare_pictures(test, folder, one, name)

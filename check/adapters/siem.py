@@ -4,12 +4,11 @@ import datetime
 import importlib.machinery
 import importlib.util
 import ipaddress
-import itertools
 import json
 import os
 import re
 
-from adapters.common import CONTRIB, Test, example_runs, other_records, random_runs, record_count, run, write
+from adapters.common import CONTRIB, Test, few_runs, other_records, record_count, run, write
 
 # How many of the random runs are taken: a filter is the same for each record.
 ONE_OF = 10
@@ -181,16 +180,12 @@ def talkers(lines):
     return sorted(hosts.values(), key=lambda host: (-host["records"], host["host"]))
 
 
-def chosen_runs(asked, folder):
-    return itertools.chain(example_runs(asked, folder), itertools.islice(random_runs(asked, folder, (0,)), max(1, asked.count // ONE_OF)))
-
-
 def test_filters(asked, folder):
     test = Test("jq: fields and values")
     if test.lacks("jq"):
         return test
     before = None
-    for one in chosen_runs(asked, folder):
+    for one in few_runs(asked, folder, ONE_OF):
         compare_filters(test, folder, one.name, whole_view(test, asked, folder, one))
         if other_records(one, before):
             one.report = write(os.path.join(folder, "other.txt"), before.text.encode())
@@ -251,7 +246,7 @@ def test_community(asked, folder):
     test = Test("community-id: records, as tshark has them")
     if test.lacks("tshark"):
         return test
-    for one in chosen_runs(asked, folder):
+    for one in few_runs(asked, folder, ONE_OF):
         octets = whole_view(test, asked, folder, one)
         shown = run(["tshark", "--enable-protocol", "communityid", "-r", one.given, "-T", "fields", "-E", "occurrence=f", "-e", "communityid"], folder)
         ids = shown.stdout.decode().splitlines()

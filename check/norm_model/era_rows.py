@@ -4,7 +4,6 @@
 """
 
 from norm_model import eras
-from norm_model.datagram_rows import left_to_the_card
 from norm_model.formats import ACK, FIN, RST, SYN
 from norm_model.segment_rows import is_inbound_tcp
 

@@ -385,14 +385,12 @@ def is_bad(notes):
 
 # Three things of the summary
 
-def number_of(rule):
-    """No rule has the number 59."""
-    return RULES.index(rule) + (1 if RULES.index(rule) < 58 else 2)
-
-
 def completes(item):
     """A fragment of a whole datagram: a rule behind those on fragments was the first to hold."""
-    return is_fragment(item) and item.entry.rules != [] and number_of(item.entry.rules[0]) > 22 and item.entry.rules[0] != "F_HELD"
+    if not is_fragment(item) or item.entry.rules == []:
+        return False
+    first = item.entry.rules[0]
+    return RULES.index(first) > RULES.index("F_ROOM") and first != "F_HELD"
 
 
 def unfinished(items):
@@ -413,7 +411,8 @@ def numbers_of(values):
 
 
 def types_of(items):
-    return numbers_of([ethertype(item) for item in items if names(item, "L_TYPE") and item.link == ETHERNET and len(item.record) >= 14 and not has_packet(item)])
+    frames = [item for item in items if names(item, "L_TYPE") and item.link == ETHERNET and len(item.record) >= 14]
+    return numbers_of([ethertype(item) for item in frames if not has_packet(item)])
 
 
 def protocols_of(items):

@@ -1,6 +1,6 @@
 """Makes packets and captures: right ones, and wrong ones where a field is named."""
 
-from norm_model.formats import ACK, FIN, ICMP, PSH, RST, SYN, TCP, UDP, URG, four, pseudo_sum, sum_for, two
+from norm_model.formats import ACK, FIN, PSH, RST, SYN, TCP, UDP, URG, four, pseudo_sum, sum_for, two
 
 LETTERS = {"S": SYN, "A": ACK, "P": PSH, "F": FIN, "R": RST, "U": URG}
 

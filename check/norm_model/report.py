@@ -5,6 +5,7 @@ the first line says so, and a line that begins with `/` is of a frame in the sec
 reads its lines.
 """
 
+import itertools
 import re
 from types import SimpleNamespace
 
@@ -116,3 +117,9 @@ def read_report(text):
             return ("Number", n)
         entries.append(entry)
     return ("Shape", len(whole) + 1)
+
+
+def frames_by_entry(entries, frames):
+    """For each of these entries its own of the frames, which are in their order."""
+    rest = iter(frames)
+    return [list(itertools.islice(rest, entry.packets)) for entry in entries]

@@ -9,7 +9,7 @@ from norm_model import eras
 from norm_model.capture import ETHERNET
 from norm_model.engine import read_segment
 from norm_model.formats import ACK, FIN, RST, SYN, TCP, four, pseudo_sum, read_ipv4, read_options, read_tcp, sum_right, u16, u32
-from norm_model.report import read_report
+from norm_model.report import frames_by_entry, read_report
 from norm_model.run import read_input
 from norm_model.words import is_trusted
 
@@ -46,16 +46,12 @@ def run_norm(program, words, given, folder):
     if isinstance(report, tuple):
         raise ValueError("the report cannot be read back")
     with open(paths["OUT"], "rb") as file:
-        rest = packets_in(file.read())
-    if len(rest) != sum(entry.packets for entry in report.entries):
+        frames = packets_in(file.read())
+    if len(frames) != sum(entry.packets for entry in report.entries):
         raise ValueError("OUT has other frames than the report says")
-    if not all(map(is_right, rest)):
+    if not all(map(is_right, frames)):
         raise ValueError("OUT has a segment with a wrong checksum, which receivers pass over")
-    written = []
-    for entry in report.entries:
-        written.append(rest[:entry.packets])
-        rest = rest[entry.packets:]
-    return 0, report, written
+    return 0, report, frames_by_entry(report.entries, frames)
 
 
 # Packets
