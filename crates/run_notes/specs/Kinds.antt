@@ -56,12 +56,12 @@ abbrev pub answers : Option TcpMarks → Bool
 answers None = false
 answers (Some marks) = has_ack marks.flags.0 && not (has_syn marks.flags.0) && not (has_rst marks.flags.0)
 
--- the line has a side, or was dropped before its addresses were judged
+-- the line has a side, or does not name I_SIDE: then the record was dropped before its addresses were judged
 abbrev pub has_side_or_fault : Option Side → List Rule → Bool
 has_side_or_fault (Some side) rules = true
 has_side_or_fault None rules = not (names rules ISide)
 
--- a line of such a segment, which is no fragment
+-- The packet is a segment with ACK and neither SYN nor RST, and no fragment; and the line has a side, or does not name I_SIDE.
 abbrev pub is_answering : PlainEntry → Option Flow → Bool
 is_answering entry None = false
 is_answering entry (Some flow) = answers (marks_of flow) && has_side_or_fault entry.side entry.rules

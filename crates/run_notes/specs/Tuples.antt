@@ -41,7 +41,7 @@ no_tuples = record { table = []; begun = 0; middle = 0; probed = 0; resumed = 0 
 abbrev pub is_middle : PlainEntry → TcpMarks → Bool
 is_middle entry marks = is_some entry.begun && not (has_syn marks.flags.0)
 
--- a segment is replaced by a probe, is of no era, and no RST
+-- a probe is written for a segment that has no RST and neither begins an era nor belongs to one
 abbrev pub is_probed : PlainEntry → TcpMarks → Bool
 is_probed entry marks = names entry.rules CProbe && not (is_some entry.begun) && not (is_some entry.era) && not (has_rst marks.flags.0)
 
@@ -50,7 +50,7 @@ abbrev pub went_on : (last : Option ℕ) → Table → (middle : Bool) → (octe
 went_on (Some era) eras middle octets tuples = record tuples { resumed = plus_if (streams_at era eras).evicted tuples.resumed }
 went_on None eras middle octets tuples = record tuples { middle = plus_if middle tuples.middle; probed = plus tuples.probed (if middle then 0 else octets) }
 
--- a segment of this four-tuple goes on if it begins an era without SYN, or is of none and replaced by a probe
+-- a segment of this four-tuple goes on with a connection if it begins an era without SYN, or if a probe is written for it so
 abbrev pub gone_on : FlowKey → PlainEntry → (octets : ℕ) → TcpMarks → Table → PlainTuples → PlainTuples
 gone_on key entry octets marks eras tuples =
     if not (is_middle entry marks) && not (is_probed entry marks)

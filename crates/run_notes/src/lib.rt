@@ -8,10 +8,10 @@
 //!
 //! Choices: counts have 64 bits and stand still at the last value. Memory is that of the eras and
 //! their four-tuples, of the datagrams of which a fragment was held, of the types and protocols that
-//! are not judged, and of the last four records. The octets that a side lacks are at most those that
-//! the other side acknowledged, and at most those that its own records pass: one side alone cannot
-//! make them up, but only in a capture that is whole and in order, and in an era that begins with its
-//! SYN.
+//! are not judged, and of the last four records. The octets counted as missing of a side are at most
+//! those that the other side acknowledged, and at most those up to the end of the side's own
+//! segments. If the capture is whole and in order and the era begins with its SYN, neither side alone
+//! can raise this count.
 #![tactic(auto)]
 
 mod by_side;
