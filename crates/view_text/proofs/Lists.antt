@@ -115,3 +115,9 @@ joined-map separator text f (x ∷ xs) = ap (λ t. text (f x) ++ t) (flat_map-ma
 pub joined-close : {T : Type 0} (text : T → List ℕ) (xs : List T) → joined [] text xs ≡ flat_map text xs
 joined-close text [] = refl
 joined-close text (x ∷ xs) = refl
+
+-- a text of elements, and one more
+pub text-more : {T : Type 0} (text : T → List ℕ) (xs : List T) (i : ℕ) (x : T) (t0 t1 : List ℕ) → i < length xs → t0 ≡ flat_map text (take i xs) →
+    t1 ≡ t0 ++ text (get_or xs i x) → t1 ≡ flat_map text (take (i + 1) xs)
+text-more text xs i x t0 t1 h e0 e1 =
+    e1 ∙ ap (λ t. t ++ text (get_or xs i x)) e0 ∙ flat_map_more text [] (take i xs) (get_or xs i x) ∙ ap (flat_map text) (sym (take_more xs i x h))

@@ -89,5 +89,6 @@ pub(crate) fn put_era(text: &mut String, format: Format, view: &EraView<'_>) -> 
     put_fields(text, format, &hosts(view))?;
     put_fields(text, format, &times(view))?;
     put_fields(text, format, &counts(view))?;
-    put_rules(text, format, false, view.rules)
+    put_rules(text, format, false, view.rules)?;
+    Ok(())
 }

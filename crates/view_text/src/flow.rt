@@ -5,7 +5,7 @@ ghost use Rattle.view_text.specs.Changes.{marks_in};
 ghost use Rattle.view_text.specs.Plain.{plain_value};
 ghost use Rattle.view_text.specs.Records as spec;
 
-use crate::part::{Value, Word, number_if};
+use crate::part::{Value, Word};
 use frame_view::{Flow, IcmpMarks, Ports, TcpMarks};
 
 // Returns the ports of a flow, where it has them.
@@ -53,14 +53,20 @@ pub(crate) fn destination_of(flow: Option<Flow>) -> Value<'static>
 pub(crate) fn source_port(flow: Option<Flow>) -> Value<'static>
     ensures { plain_value result ≡ spec.source_port flow }
 {
-    number_if(ports_in(flow).map(|ports| u64::from(ports.src)))
+    match ports_in(flow) {
+        Some(ports) => Value::Number(u64::from(ports.src)),
+        None => Value::Absent,
+    }
 }
 
 /// Returns the port that a packet goes to.
 pub(crate) fn destination_port(flow: Option<Flow>) -> Value<'static>
     ensures { plain_value result ≡ spec.destination_port flow }
 {
-    number_if(ports_in(flow).map(|ports| u64::from(ports.dst)))
+    match ports_in(flow) {
+        Some(ports) => Value::Number(u64::from(ports.dst)),
+        None => Value::Absent,
+    }
 }
 
 /// Returns the protocol.
@@ -87,49 +93,70 @@ pub(crate) fn flags_of(flow: Option<Flow>) -> Value<'static>
 pub(crate) fn seq_of(flow: Option<Flow>) -> Value<'static>
     ensures { plain_value result ≡ changes.seq_of (marks_in flow) }
 {
-    number_if(marks_of(flow).map(|marks| u64::from(marks.seq)))
+    match marks_of(flow) {
+        Some(marks) => Value::Number(u64::from(marks.seq)),
+        None => Value::Absent,
+    }
 }
 
 /// Returns the acknowledgment of a segment.
 pub(crate) fn ack_of(flow: Option<Flow>) -> Value<'static>
     ensures { plain_value result ≡ changes.ack_of (marks_in flow) }
 {
-    number_if(marks_of(flow).map(|marks| u64::from(marks.ack)))
+    match marks_of(flow) {
+        Some(marks) => Value::Number(u64::from(marks.ack)),
+        None => Value::Absent,
+    }
 }
 
 /// Returns the window in the header of a segment.
 pub(crate) fn window_of(flow: Option<Flow>) -> Value<'static>
     ensures { plain_value result ≡ spec.window_in (marks_in flow) }
 {
-    number_if(marks_of(flow).map(|marks| u64::from(marks.window)))
+    match marks_of(flow) {
+        Some(marks) => Value::Number(u64::from(marks.window)),
+        None => Value::Absent,
+    }
 }
 
 /// Returns the type of an ICMP message.
 pub(crate) fn icmp_type_of(flow: Option<Flow>) -> Value<'static>
     ensures { plain_value result ≡ spec.icmp_type_of flow }
 {
-    number_if(icmp_in(flow).map(|marks| u64::from(marks.kind)))
+    match icmp_in(flow) {
+        Some(marks) => Value::Number(u64::from(marks.kind)),
+        None => Value::Absent,
+    }
 }
 
 /// Returns the code of an ICMP message.
 pub(crate) fn icmp_code_of(flow: Option<Flow>) -> Value<'static>
     ensures { plain_value result ≡ spec.icmp_code_of flow }
 {
-    number_if(icmp_in(flow).map(|marks| u64::from(marks.code)))
+    match icmp_in(flow) {
+        Some(marks) => Value::Number(u64::from(marks.code)),
+        None => Value::Absent,
+    }
 }
 
 /// Returns the identification of a packet.
 pub(crate) fn id_of(flow: Option<Flow>) -> Value<'static>
     ensures { plain_value result ≡ spec.id_of flow }
 {
-    number_if(flow.map(|flow| u64::from(flow.identification)))
+    match flow {
+        Some(flow) => Value::Number(u64::from(flow.identification)),
+        None => Value::Absent,
+    }
 }
 
 /// Returns the fragment offset of a packet.
 pub(crate) fn offset_of(flow: Option<Flow>) -> Value<'static>
     ensures { plain_value result ≡ spec.offset_of flow }
 {
-    number_if(flow.map(|flow| u64::from(flow.offset)))
+    match flow {
+        Some(flow) => Value::Number(u64::from(flow.offset)),
+        None => Value::Absent,
+    }
 }
 
 /// Returns whether more fragments follow a packet.

@@ -20,46 +20,62 @@ fn put_numbers(text: &mut String, before: u64, count: u8) -> Put
     put_text(text, "]")
 }
 
-// Writes a value.
+// Writes a value behind the quote that ends its name, and a colon.
+#[inline(always)]
 fn put_value(text: &mut String, value: Value<'_>) -> Put
-    ensures { OnOk result (string_bytes text.new ≡ string_bytes text.old ++ spec.scalar_json (plain_value value.entry)) }
+    ensures { OnOk result (string_bytes text.new ≡ string_bytes text.old ++ (codes "\":" ++ spec.scalar_json (plain_value value.entry))) }
 {
     match value {
-        Value::Absent => put_text(text, "null"),
-        Value::Number(number) => put_number(text, number),
-        Value::Mark(true) => put_text(text, "true"),
-        Value::Mark(false) => put_text(text, "false"),
+        Value::Absent => put_text(text, "\":null"),
+        Value::Number(number) => {
+            put_text(text, "\":")?;
+            put_number(text, number)
+        }
+        Value::Mark(true) => put_text(text, "\":true"),
+        Value::Mark(false) => put_text(text, "\":false"),
         Value::Word(word) => {
-            put_text(text, "\"")?;
+            put_text(text, "\":\"")?;
             put_word(text, word)?;
             put_text(text, "\"")
         }
-        Value::Octets(octets) | Value::Counted(octets) => put_octets_json(text, octets),
-        Value::Frames { before, count } => put_numbers(text, before, count),
+        Value::Octets(octets) | Value::Counted(octets) => {
+            put_text(text, "\":")?;
+            put_octets_json(text, octets)
+        }
+        Value::Frames { before, count } => {
+            put_text(text, "\":")?;
+            put_numbers(text, before, count)
+        }
     }
 }
 
-// Returns a quote, behind a comma where that is wanted.
-fn quote(comma: bool) -> &'static str
-    ensures { result.now ≡ comma_if comma ++ 34 ∷ [] }
+// Writes the quote before a name; behind a comma if it is not the first.
+#[inline(always)]
+fn put_quote(text: &mut String, comma: bool) -> Put
+    ensures { OnOk result (string_bytes text.new ≡ string_bytes text.old ++ (comma_if comma ++ 34 ∷ [])) }
 {
-    if comma { ",\"" } else { "\"" }
+    if comma {
+        return put_text(text, ",\"");
+    }
+    put_text(text, "\"")
 }
 
 /// Writes the name of a member, in quotes, and a colon; behind a comma if it is not the first.
 pub(crate) fn put_name(text: &mut String, comma: bool, name: &str) -> Put
     ensures { OnOk result (string_bytes text.new ≡ string_bytes text.old ++ (comma_if comma ++ spec.string name.now ++ codes ":")) }
 {
-    put_text(text, quote(comma))?;
+    put_quote(text, comma)?;
     put_text(text, name)?;
     put_text(text, "\":")
 }
 
 /// Writes a named value as a member; behind a comma if it is not the first.
+#[inline(always)]
 pub(crate) fn put_member(text: &mut String, comma: bool, part: &Part<'_>) -> Put
     ensures { OnOk result (string_bytes text.new ≡ string_bytes text.old ++ (comma_if comma ++ spec.part_json (plain_part part.now))) }
 {
-    put_name(text, comma, part.name)?;
+    put_quote(text, comma)?;
+    put_text(text, part.name)?;
     put_value(text, part.value)
 }
 

@@ -6,7 +6,7 @@ ghost use Rattle.view_text.specs.Plain.{plain_part, plain_value};
 use wire_base::Addr;
 
 /// A word.
-#[derive(Clone, Copy, Debug)]
+#[derive(Clone, Copy)]
 pub(crate) enum Word<'a> {
     Text(&'a str),
     Address(Addr),
@@ -23,7 +23,7 @@ pub(crate) enum Word<'a> {
 }
 
 /// One value.
-#[derive(Clone, Copy, Debug)]
+#[derive(Clone, Copy)]
 pub(crate) enum Value<'a> {
     Absent,
     Number(u64),
@@ -37,7 +37,7 @@ pub(crate) enum Value<'a> {
 }
 
 /// What is counted by number.
-#[derive(Clone, Copy, Debug, PartialEq, Eq)]
+#[derive(Clone, Copy)]
 pub(crate) enum Numbered {
     /// EtherTypes.
     Types,
@@ -46,7 +46,7 @@ pub(crate) enum Numbered {
 }
 
 /// A named value.
-#[derive(Clone, Copy, Debug)]
+#[derive(Clone, Copy)]
 pub(crate) struct Part<'a> {
     pub(crate) name: &'static str,
     /// The text before the value on a text line, which lacks a value without a lead.

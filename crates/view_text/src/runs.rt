@@ -279,5 +279,6 @@ pub(crate) fn put_summary(text: &mut String, format: Format, summary: &Summary<'
     put_second(text, format, summary.second)?;
     put_frames(text, format, summary)?;
     put_rule_counts(text, format, summary.rules)?;
-    put_group(text, format, "eras", "\neras ", &era_parts(&summary.eras))
+    put_group(text, format, "eras", "\neras ", &era_parts(&summary.eras))?;
+    Ok(())
 }
