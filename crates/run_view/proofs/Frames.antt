@@ -17,9 +17,9 @@ use Rattle.pcap_file.specs.Reading.{Reading}
 use Rattle.pcap_file.specs.Reads.{Advances, FailsWith, HasEnd, HasFlaw, IfRecord, Leaves, Reads, TakesPart, shown}
 use Rattle.pcap_file.specs.ReadsHead.{Begins, ReadsHead}
 use Rattle.capture_input.specs.declared.fault.InputFault.TheVariants as faults
-use Rattle.capture_input.specs.Faults.{is_read_fault, of_flaw}
+use Rattle.capture_input.specs.Faults.{is_read_fault, of_flaw, of_head, of_record}
 use Rattle.frame_view.specs.Changes.{plain}
-use Rattle.run_view.specs.SourceStops.{output_head_stop, output_stop}
+use Rattle.run_view.specs.SourceStops.{output_stop}
 use Rattle.edge_io.specs.Seen.{Seen, seen_of}
 use Rattle.run_view.specs.Sources.{OutputFailsBehind, OutputUnread, TookFrames}
 use Rattle.run_view.specs.Standing.{OutputAt, OutputHeadStops, OutputReads, OutputStops}
@@ -48,17 +48,17 @@ head_fails None left flaw begins = tt
 head_fails (Some octets) None flaw begins = absurd begins
 head_fails (Some octets) (Some rest) flaw begins = (flaw, refl, begins.0)
 
-pub head_stops : (link : Link) (all left : Option (List ℕ)) (before now : ℕ) (fault : HeadFault) → ReadsHead all left (Err fault)
-    → (fault ≡ heads.ReadFault → Rose before now) → OutputHeadStops link all before now (output_head_stop fault)
-head_stops link all left before now heads.Cut reads rose =
+pub head_stops : (link : Link) (all left : Option (List ℕ)) (before after : ℕ) (fault : HeadFault) → ReadsHead all left (Err fault)
+    → (fault ≡ heads.ReadFault → Rose before after) → OutputHeadStops link all before (seen_of left after) (output_stop (of_head fault) 0)
+head_stops link all left before after heads.Cut reads rose =
     inl (record { own = refl; has = head_fails all left classic.cut_short reads; place = refl })
-head_stops link all left before now heads.Magic reads rose =
+head_stops link all left before after heads.Magic reads rose =
     inl (record { own = refl; has = head_fails all left classic.bad_magic reads; place = refl })
-head_stops link all left before now heads.Version reads rose =
+head_stops link all left before after heads.Version reads rose =
     inl (record { own = refl; has = head_fails all left classic.bad_version reads; place = refl })
-head_stops link all left before now heads.Link reads rose =
+head_stops link all left before after heads.Link reads rose =
     inl (record { own = refl; has = head_fails all left classic.bad_link reads; place = refl })
-head_stops link all left before now heads.ReadFault reads rose = rose refl
+head_stops link all left before after heads.ReadFault reads rose = record { rose = rose refl; part = reads }
 
 -- the head has another link
 accepted : (all left : Option (List ℕ)) (head : Head) → Begins all left (Ok head) → IfSome all (λ octets. head_of octets ≡ Ok head)
@@ -66,7 +66,7 @@ accepted None left head begins = tt
 accepted (Some octets) None head begins = absurd begins
 accepted (Some octets) (Some rest) head begins = begins.0
 
-pub other_link : (link : Link) (all left : Option (List ℕ)) (before now : ℕ) (head : Head) → Begins all left (Ok head) → head.link ≢ link
+pub other_link : (link : Link) (all left : Option (List ℕ)) (before : ℕ) (now : Seen) (head : Head) → Begins all left (Ok head) → head.link ≢ link
     → OutputHeadStops link all before now (stops.Output faults.Link 0)
 other_link link all left before now head begins other =
     inr (record { head = head; accepted = accepted all left head begins; other = other; fault_is = refl; place = refl })
@@ -118,7 +118,7 @@ flawed_in old head all before frames flaw own flawed at =
 pub frame_stops : (old : Reading) (head : Head) (all before after : Option (List ℕ)) (frames : List Packet) (then_ now offset : ℕ)
     (fault : RecordFault)
     → FailsWith old.head.order old.given before after fault → (fault ≡ records.ReadFault → Rose then_ now) → offset ≡ old.place
-    → OutputAt old head all before frames → OutputStops all head frames then_ (seen_of after now) (output_stop fault offset)
+    → OutputAt old head all before frames → OutputStops all head frames then_ (seen_of after now) (output_stop (of_record fault) offset)
 frame_stops old head all before after frames then_ now offset records.Cut fails rose place at =
     rw place (flawed_in old head all before frames classic.cut_short refl fails.flawed at)
 frame_stops old head all before after frames then_ now offset records.Long fails rose place at =

@@ -1,7 +1,6 @@
 -- Why a view stops at the heads of input and output and the first line of the report, from why its functions do.
 use Rattle.std.proofs.Common.{◌≡◌, ℕ, List, [], Option, Some, None, Ok, subst, inl, inr}
 use Rattle.std.specs.Prelude.{IfSome}
-use Rattle.edge_io.specs.Faults.{Rose}
 use Rattle.pcap_file.specs.declared.head.Head.{Head}
 use Rattle.pcap_file.specs.Heads.{head_of}
 use Rattle.pcap_file.specs.Reading.{Reading}
@@ -14,30 +13,30 @@ use Rattle.run_view.specs.declared.stop.Stop.{Stop}
 use Rattle.run_view.specs.declared.stop.Stop.TheVariants as stops
 use Rattle.run_view.specs.declared.line.Lines.{Lines}
 use Rattle.run_view.specs.Ahead.{left_in}
-use Rattle.run_view.specs.Causes.{Sources, WhyBefore}
+use Rattle.run_view.specs.Causes.{FaultCounts, Moment, Sources, WhyBefore}
 use Rattle.run_view.specs.Sources.{HasHead, HaveHeads, IsOfOtherLink, TookFrames}
 use Rattle.run_view.specs.Standing.{InputHeadStops, InputOpened, OutputAt, OutputHeadStops}
 use Rattle.run_view.specs.Why.{FirstStops}
 
 -- the first line of the report
-by_report : (s : Sources) (rose : Type 0) (then_ after : ℕ) (stop : Stop) → (Rose then_ after → rose) → HaveHeads s.input s.output
-    → FirstStops s.report then_ after stop → WhyBefore s rose stop
-by_report s rose then_ after stops.Unread wider heads why = wider why
-by_report s rose then_ after (stops.Report n) wider heads why = (heads, why)
-by_report s rose then_ after _ wider heads why = absurd why
+by_report : (s : Sources) (before : FaultCounts) (now : Moment) (stop : Stop) → HaveHeads s.input s.output
+    → FirstStops s.report before.report now.report stop → WhyBefore s before now stop
+by_report s before now stops.Unread heads why = inr (inr (record { heads = heads; unread = why }))
+by_report s before now (stops.Report n) heads why = (heads, why)
+by_report s before now _ heads why = absurd why
 
 -- the same where the report is read through lines of which none was read yet
-pub by_report_ahead : (s : Sources) (lines : Lines) (rose : Type 0) (then_ after : ℕ) (stop : Stop) → left_in lines s.report ≡ s.report
-    → (Rose then_ after → rose) → HaveHeads s.input s.output → FirstStops (left_in lines s.report) then_ after stop → WhyBefore s rose stop
-by_report_ahead s lines rose then_ after stop same wider heads why =
-    let F : Option (List ℕ) → Type 0 = λ r. FirstStops r then_ after stop in by_report s rose then_ after stop wider heads (subst F same why)
+pub by_report_ahead : (s : Sources) (lines : Lines) (before : FaultCounts) (now : Moment) (stop : Stop) → left_in lines s.report ≡ s.report
+    → HaveHeads s.input s.output → FirstStops (left_in lines s.report) before.report now.report stop → WhyBefore s before now stop
+by_report_ahead s lines before now stop same heads why =
+    let F : Option (List ℕ) → Type 0 = λ r. FirstStops r before.report now.report stop in by_report s before now stop heads (subst F same why)
 
 -- the head of the input
-pub by_input : (s : Sources) (rose : Type 0) (then_ after : ℕ) (stop : Stop) → (Rose then_ after → rose) → InputHeadStops s.input then_ after stop
-    → WhyBefore s rose stop
-by_input s rose then_ after (stops.Input fault offset) wider why = why
-by_input s rose then_ after stops.Unread wider why = wider why
-by_input s rose then_ after _ wider why = absurd why
+pub by_input : (s : Sources) (before : FaultCounts) (now : Moment) (stop : Stop) → InputHeadStops s.input before.input now.input stop
+    → WhyBefore s before now stop
+by_input s before now (stops.Input fault offset) why = why
+by_input s before now stops.Unread why = inl why
+by_input s before now _ why = absurd why
 
 has_head : (all left : Option (List ℕ)) (head : Head) (walk : Walk) → Took None all left head walk → IfSome all (λ octets. HasHead octets head)
 has_head None left head walk took = tt
@@ -63,13 +62,15 @@ heads_are input reader read read_left written written_left opened at same =
     }
 
 -- the head of the output
-pub by_output_head : (input : Input) (link : Link) (s : Sources) (left : Option (List ℕ)) (rose : Type 0) (then_ after : ℕ) (stop : Stop)
-    → (Rose then_ after → rose)
-    → link ≡ (head_in input).link → InputOpened input s.input left → OutputHeadStops link s.output then_ after stop → WhyBefore s rose stop
-by_output_head input link s left rose then_ after stops.Unread wider same opened why = wider why
-by_output_head input link s left rose then_ after (stops.Output fault offset) wider same opened (inl why) =
+pub by_output_head : (input : Input) (link : Link) (s : Sources) (left : Option (List ℕ)) (before : FaultCounts) (now : Moment) (stop : Stop)
+    → link ≡ (head_in input).link → InputOpened input s.input left → OutputHeadStops link s.output before.output now.output stop
+    → WhyBefore s before now stop
+by_output_head input link s left before now stops.Unread same opened why =
+    inr
+    (inl (record { head = head_in input; begins = has_head s.input left (head_in input) opened.stands.walk opened.stands.took; unread = why }))
+by_output_head input link s left before now (stops.Output fault offset) same opened (inl why) =
     record { head = head_in input; begins = has_head s.input left (head_in input) opened.stands.walk opened.stands.took; amiss = inl why }
-by_output_head input link s left rose then_ after (stops.Output fault offset) wider same opened (inr why) =
+by_output_head input link s left before now (stops.Output fault offset) same opened (inr why) =
     let O : Link → Type 0 = λ l. IsOfOtherLink l s.output fault offset in
     record { head = head_in input; begins = has_head s.input left (head_in input) opened.stands.walk opened.stands.took; amiss = inr (subst O same why) }
-by_output_head input link s left rose then_ after _ wider same opened why = absurd why
+by_output_head input link s left before now _ same opened why = absurd why

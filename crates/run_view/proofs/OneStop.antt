@@ -29,7 +29,7 @@ use Rattle.run_view.specs.declared.words.Asked.{Asked}
 use Rattle.run_view.proofs.Fates.{HasAllFrames, HasAllRecords, HasFrames, HasRecords, has_frames, has_records, head_no_fault, own_head}
 use Rattle.run_view.proofs.Fronts.{heading_front, heading_one}
 use Rattle.run_view.proofs.Numbered.{AreLines, Goes, are_lines, compare, few_firsts, firsts_in, firsts_length, frames_total, goes_on, in_front, next_of, owed_in, owed_is, records_length, small_total, total}
-use Rattle.run_view.proofs.Widenings.{unread_rose}
+use Rattle.run_view.proofs.Widenings.{first_rose, unread_rose}
 use Rattle.run_view.proofs.Reasons.{Reason, end_behind, none_before, none_over, reason, reasons_one}
 
 -- ---- what the three files begin with
@@ -88,14 +88,14 @@ data Begins (input output report : List ℕ) (stop : Stop) : Type 0 where
 -- ---- each cause is one of these
 
 module _ (input output report : List ℕ) where
-  before : (rose : Type 0) (stop : Stop) → IsExact stop → WhyBefore (sources_of (Some input) (Some output) (Some report)) rose stop
+  before : (first : FaultCounts) (now : Moment) (stop : Stop) → IsExact stop → WhyBefore (sources_of (Some input) (Some output) (Some report)) first now stop
       → Begins input output report stop
-  before rose (stops.Input fault offset) exact why = in_head (record { fault = fault; offset = offset; fails = why.has; stop_is = refl })
-  before rose (stops.Output fault offset) exact why = out_head (record { fault = fault; offset = offset; amiss = why; stop_is = refl })
-  before rose (stops.Report n) exact why = no_first (record { heads = why.0; amiss = why.1.amiss; stop_is = ap stops.Report why.1.place })
-  before rose stops.Unread exact why = absurd exact
-  before rose stops.Memory exact why = absurd exact
-  before rose _ exact why = absurd why
+  before first now (stops.Input fault offset) exact why = in_head (record { fault = fault; offset = offset; fails = why.has; stop_is = refl })
+  before first now (stops.Output fault offset) exact why = out_head (record { fault = fault; offset = offset; amiss = why; stop_is = refl })
+  before first now (stops.Report n) exact why = no_first (record { heads = why.0; amiss = why.1.amiss; stop_is = ap stops.Report why.1.place })
+  before first now stops.Unread exact why = absurd exact
+  before first now stops.Memory exact why = absurd exact
+  before first now _ exact why = absurd why
 
   head_begun : (head : Head) (packets : List Packet) → BeginsWithRecords (Some input) head packets → HasHead input head
   head_begun head packets b = by b.left b.took where
@@ -141,7 +141,7 @@ module _ (input output report : List ℕ) where
 
   begins_by : (asked : Asked) (printed printed_now : Option (List ℕ)) (was : FaultCounts) (is : Moment) (stop : Stop) → IsExact stop
       → FilesStop asked (sources_of (Some input) (Some output) (Some report)) printed printed_now was is stop → Begins input output report stop
-  begins_by asked printed printed_now was is stop exact (inl why) = before (SourceRose was (faults_of is)) stop exact why.why
+  begins_by asked printed printed_now was is stop exact (inl why) = before was is stop exact why.why
   begins_by asked printed printed_now was is stop exact (inr w) = by w.stops where
     by : EntriesStop asked (sources_of (Some input) (Some output) w.behind) w.form w.head w.written printed printed_now was is stop
         → Begins input output report stop
@@ -332,7 +332,7 @@ module _ (asked : Asked) (input output report : List ℕ) (printed printed_now :
 
   stop_none : (stop : Stop) → Stops stop → status_of stop ≡ 8
   stop_none stops.Memory why = refl
-  stop_none stops.Unread (inl why) = absurd (none why.why)
+  stop_none stops.Unread (inl why) = absurd (none (first_rose _ before now why.why))
   stop_none stops.Unread (inr w) =
       elim w.stops [ inl unwritten ↦ absurd (none_out unwritten.rose) | inr behind ↦ absurd (none (unread_rose _ _ _ _ _ _ before now behind.why)) ]
   stop_none stops.Unwritten (inl why) = absurd why.why

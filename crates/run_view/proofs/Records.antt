@@ -17,7 +17,7 @@ use Rattle.capture_input.proofs.Stops.{before_interface, block_flawed, not_read,
 use Rattle.capture_input.specs.Reading.{Behind, asked_in, head_in}
 use Rattle.capture_input.specs.Reads.{GivesPacket, ReachesEnd, Reads, StopsAt, StopsInHead}
 use Rattle.edge_io.specs.Seen.{Seen, seen_of}
-use Rattle.run_view.specs.Sources.{BeginsWithFrames, BeginsWithRecords, InputFailsBehind, InputHeadFails, InputUnread}
+use Rattle.run_view.specs.Sources.{BeginsWithFrames, BeginsWithRecords, InputFailsBehind, InputHeadFails, InputHeadUnread, InputUnread}
 use Rattle.run_view.specs.Standing.{InputAt, OutputAt, InputHeadStops, InputReads, InputStops}
 use Rattle.run_view.specs.SourceStops.{input_stop}
 
@@ -34,11 +34,11 @@ frames_at reader head all left frames at = record { left = left; took = at.took 
 -- Reading the records of the input.
 
 -- a fault of the octets, or of the source, is what the stop says
-head_so : (all : Option (List ℕ)) (before now : ℕ) (fault : InputFault) (offset : ℕ)
-    → (is_read_fault fault ≡ false → InputHeadFails all fault offset) → (is_read_fault fault ≡ true → Rose before now)
+head_so : (all : Option (List ℕ)) (before : ℕ) (now : Seen) (fault : InputFault) (offset : ℕ)
+    → (is_read_fault fault ≡ false → InputHeadFails all fault offset) → (fault ≡ faults.ReadFault → InputHeadUnread all before now)
     → InputHeadStops all before now (input_stop fault offset)
-head_so all before now faults.ReadFault offset fails rose = rose refl
-head_so all before now _ offset fails rose = fails refl
+head_so all before now faults.ReadFault offset fails unread = unread refl
+head_so all before now _ offset fails unread = fails refl
 
 stops_so : (all : Option (List ℕ)) (head : Head) (packets : List Packet) (before : ℕ) (now : Seen) (fault : InputFault) (offset : ℕ)
     → (is_read_fault fault ≡ false → InputFailsBehind all head packets fault offset)
@@ -58,9 +58,11 @@ head_fails (Some xs) (Some ys) fault offset own (inr p) = inr (before_interface 
 
 pub head_stops : (all now : Option (List ℕ)) (before after : ℕ) (fault : InputFault) (offset : ℕ)
     → StopsInHead None all now fault offset → (is_read_fault fault ≡ true → Rose before after)
-    → InputHeadStops all before after (input_stop fault offset)
+    → InputHeadStops all before (seen_of now after) (input_stop fault offset)
 head_stops all now before after fault offset stops rose =
-    head_so all before after fault offset (λ own. record { own = own; has = head_fails all now fault offset own stops }) rose
+    head_so all before (seen_of now after) fault offset (λ own. record { own = own; has = head_fails all now fault offset own stops })
+    (λ is.
+    record { rose = rose (ap is_read_fault is); offset = offset; part = subst (λ f. StopsInHead None all now f offset) is stops })
 
 -- the next record
 given_more : (old new : Input) (head : Head) (all before after : Option (List ℕ)) (packets : List Packet) (given : Record)

@@ -11,7 +11,7 @@ use Rattle.edge_io.specs.Seen.{seen_of}
 use Rattle.run_view.specs.Items.{Item}
 use Rattle.run_view.specs.View.{closing_text, items_text}
 use Rattle.run_view.proofs.Whys.{items_alone}
-use Rattle.run_view.proofs.Widenings.{entries_later}
+use Rattle.run_view.proofs.Widenings.{entries_later, first_later}
 use Rattle.run_view.specs.Words.{asked_in, asks_json}
 use Rattle.run_view.specs.declared.words.Asked.{Asked}
 use Rattle.pcap_file.specs.declared.head.Head.{Head}
@@ -153,7 +153,17 @@ pub cause_of : (words : List (List ℕ)) (before after : Moment) (mid : Option (
     → FilesStop asked (sources_at before) before.out.octets mid (faults_of before) (record after { out = seen_of mid mid_faults }) stop
     → Cause words before after mid stop
 cause_of words before after mid mid_faults asked stop accepted wider (inl stops) =
-    inr (record { asked = asked; accepted = accepted; why = inl stops })
+    inr
+    (record {
+      asked = asked;
+      accepted = accepted;
+      why =
+          inl
+          (record {
+            why = first_later (sources_at before) (faults_of before) after (seen_of mid mid_faults) stop stops.why;
+            text = stops.text;
+          });
+    })
 cause_of words before after mid mid_faults asked stop accepted wider (inr within) =
     inr
     (record {

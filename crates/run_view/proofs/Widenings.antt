@@ -6,7 +6,7 @@ use Rattle.run_view.specs.declared.form.Form.{Form}
 use Rattle.run_view.specs.declared.stop.Stop.{Stop}
 use Rattle.run_view.specs.declared.stop.Stop.TheVariants as stops
 use Rattle.run_view.specs.declared.words.Asked.{Asked}
-use Rattle.run_view.specs.Causes.{EntriesStop, FaultCounts, Moment, SourceRose, Sources, UnreadBehind, WhyBehind, faults_of}
+use Rattle.run_view.specs.Causes.{EntriesStop, FaultCounts, Moment, SourceRose, Sources, UnreadBefore, UnreadBehind, WhyBefore, WhyBehind, faults_of}
 use Rattle.run_view.specs.Items.{Item}
 use Rattle.edge_io.specs.Seen.{Seen}
 
@@ -16,22 +16,34 @@ rose_within a b c d ab cd rose = omega arith
 -- a source that failed is one of the three
 pub unread_rose : (s : Sources) (form : Form) (head written : Head) (items : List Item) (left : Option (List ℕ)) (before : FaultCounts) (now : Moment)
     → UnreadBehind s form head written items left before now → SourceRose before (faults_of now)
-unread_rose s form head written items left before now (inl u) = inr (inr u.rose)
+unread_rose s form head written items left before now (inl u) = inr (inr u.unread.rose)
 unread_rose s form head written items left before now (inr (inl u)) = inl u.unread.rose
 unread_rose s form head written items left before now (inr (inr (inl u))) = inr (inl u.unread.rose)
 unread_rose s form head written items left before now (inr (inr (inr u))) = inr (inl u.unread.rose)
+
+pub first_rose : (s : Sources) (before : FaultCounts) (now : Moment) → UnreadBefore s before now → SourceRose before (faults_of now)
+first_rose s before now (inl u) = inl u.rose
+first_rose s before now (inr (inl u)) = inr (inl u.unread.rose)
+first_rose s before now (inr (inr u)) = inr (inr u.unread.rose)
 
 -- the output was written to since
 unread_later : (s : Sources) (form : Form) (head written : Head) (items : List Item) (left : Option (List ℕ)) (before : FaultCounts) (now : Moment)
     (out : Seen) → UnreadBehind s form head written items left before (record now { out = out })
     → UnreadBehind s form head written items left before now
 unread_later s form head written items left before now out (inl u) =
-    inl (record { rose = u.rose; behind = u.behind; lines = u.lines; part = u.part })
+    inl (record { behind = u.behind; lines = u.lines; unread = u.unread })
 unread_later s form head written items left before now out (inr (inl u)) = inr (inl (record { wanted = u.wanted; unread = u.unread }))
 unread_later s form head written items left before now out (inr (inr (inl u))) =
     inr (inr (inl (record { entry = u.entry; line = u.line; record_is = u.record_is; own = u.own; fewer = u.fewer; unread = u.unread })))
 unread_later s form head written items left before now out (inr (inr (inr u))) =
     inr (inr (inr (record { over = u.over; whole = u.whole; unread = u.unread })))
+
+pub first_later : (s : Sources) (before : FaultCounts) (now : Moment) (out : Seen) (stop : Stop)
+    → WhyBefore s before (record now { out = out }) stop → WhyBefore s before now stop
+first_later s before now out stops.Unread (inl u) = inl u
+first_later s before now out stops.Unread (inr (inl u)) = inr (inl (record { head = u.head; begins = u.begins; unread = u.unread }))
+first_later s before now out stops.Unread (inr (inr u)) = inr (inr (record { heads = u.heads; unread = u.unread }))
+first_later s before now out _ why = why
 
 why_later : (s : Sources) (form : Form) (head written : Head) (items : List Item) (left : Option (List ℕ)) (before : FaultCounts) (now : Moment)
     (out : Seen) (stop : Stop) → WhyBehind s form head written items left before (record now { out = out }) stop

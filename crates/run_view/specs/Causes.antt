@@ -17,7 +17,7 @@ use Rattle.run_view.specs.Forms.{heading, own_frames, version_of}
 use Rattle.run_view.specs.Items.{AreItems, Item, end_text, firsts, frames_of, lines_of, lines_text, owed_of, packets_of, text_by, turn_of, waits}
 use Rattle.run_view.specs.Printed.{AreWholeLines}
 use Rattle.edge_io.specs.Seen.{Seen, seen_of}
-use Rattle.run_view.specs.Sources.{BeginsWithFrames, BeginsWithRecords, HaveHeads, InputFailsBehind, InputHeadFails, InputUnread, OutputBeginsAmiss, OutputFailsBehind, OutputUnread}
+use Rattle.run_view.specs.Sources.{BeginsWithFrames, BeginsWithRecords, HasHead, HaveHeads, InputFailsBehind, InputHeadFails, InputHeadUnread, InputUnread, OutputBeginsAmiss, OutputFailsBehind, OutputHeadUnread, OutputUnread}
 use Rattle.run_view.specs.View.{closing_text, items_text}
 use Rattle.run_view.specs.declared.form.Form.{Form}
 use Rattle.run_view.specs.declared.stop.Stop.{Stop}
@@ -247,15 +247,19 @@ pub record UnreadAtEnd (s : Sources) (head written : Head) (items : List Item) (
   pub whole : TookAll None s.input head (packets_of items)
   pub unread : OutputUnread s.output written (frames_of items) before.output now.output
 
--- The report, which is read ahead, failed behind the lines of the items, or behind the last line of a run of them: fewer than 4,096 octets were taken
--- behind.
+-- The report, which is read ahead, failed: fewer than 4,096 octets were taken of what it has left behind the lines that were read.
+pub record ReportUnread (report : Option (List ℕ)) (before : ℕ) (now : Seen) : Type 0 where
+  pub rose : Rose before now.faults
+  pub part : TakesFewer report now.octets 4096
+
+-- the report failed behind the lines of the items, or behind the last line of a run of them
 pub record UnreadAtLine (items : List Item) (left : Option (List ℕ)) (before : FaultCounts) (now : Moment) : Type 0 where
-  pub rose : Rose before.report now.report.faults
   pub behind : Option (List ℕ)
   pub lines : (behind ≡ left) ⊎ TookLast items left behind
-  pub part : TakesFewer behind now.report.octets 4096
+  pub unread : ReportUnread behind before.report now.report
 
--- A source failed. What was taken of the input or of the output up to there is what the items have of it, and of what was wanted next only a part.
+-- A source failed. If it is the input or the output, what was taken of it is what the items have, the frames before the one that was wanted, blocks
+-- without a record, and only a part of what was wanted next.
 abbrev pub UnreadBehind : (s : Sources) (form : Form) (head written : Head) (items : List Item) (left : Option (List ℕ)) (before : FaultCounts)
     (now : Moment) → Type 0
 UnreadBehind s form head written items left before now =
@@ -316,18 +320,33 @@ pub record BeginsAmiss (report : Option (List ℕ)) (line : ℕ) : Type 0 where
   pub amiss : IfSome report IsNoFirst
   pub place : line ≡ 1
 
--- why a view stops at the heads of input and output and the first line of the report; `rose` says that a source failed
-abbrev pub WhyBefore : (s : Sources) (rose : Type 0) → Stop → Type 0
-WhyBefore s rose (stops.Input fault offset) = InputHeadFails s.input fault offset
-WhyBefore s rose (stops.Output fault offset) = OutputBeginsAmiss s.input s.output fault offset
-WhyBefore s rose (stops.Report line) = HaveHeads s.input s.output × BeginsAmiss s.report line
-WhyBefore s rose stops.Unread = rose
-WhyBefore s rose stops.Memory = Unit {0}
-WhyBefore s rose _ = ⊥
+-- the head of the input, where it is told, is accepted, and the output failed in its own
+pub record UnreadInOutput (s : Sources) (before : FaultCounts) (now : Moment) : Type 0 where
+  pub head : Head
+  pub begins : IfSome s.input (λ octets. HasHead octets head)
+  pub unread : OutputHeadUnread s.output before.output now.output
 
--- a view stops there, before anything is printed
-pub record StopsBefore (s : Sources) (printed printed_now : Option (List ℕ)) (rose : Type 0) (stop : Stop) : Type 0 where
-  pub why : WhyBefore s rose stop
+-- the heads of input and output, where they are told, are accepted and have one link, and the report failed before its first line was returned
+pub record UnreadInReport (s : Sources) (before : FaultCounts) (now : Moment) : Type 0 where
+  pub heads : HaveHeads s.input s.output
+  pub unread : ReportUnread s.report before.report now.report
+
+-- A source failed before the first line of the report was returned: the input in its head, or the output in its own, or the report.
+abbrev pub UnreadBefore : (s : Sources) (before : FaultCounts) (now : Moment) → Type 0
+UnreadBefore s before now = InputHeadUnread s.input before.input now.input ⊎ (UnreadInOutput s before now ⊎ UnreadInReport s before now)
+
+-- why a view stops at the heads of input and output and the first line of the report; that memory could not be allocated has no cause in the files
+abbrev pub WhyBefore : (s : Sources) (before : FaultCounts) (now : Moment) → Stop → Type 0
+WhyBefore s before now (stops.Input fault offset) = InputHeadFails s.input fault offset
+WhyBefore s before now (stops.Output fault offset) = OutputBeginsAmiss s.input s.output fault offset
+WhyBefore s before now (stops.Report line) = HaveHeads s.input s.output × BeginsAmiss s.report line
+WhyBefore s before now stops.Unread = UnreadBefore s before now
+WhyBefore s before now stops.Memory = Unit {0}
+WhyBefore s before now _ = ⊥
+
+-- a view stops at a head or at the first line of the report, and nothing was printed
+pub record StopsBefore (s : Sources) (printed printed_now : Option (List ℕ)) (before : FaultCounts) (now : Moment) (stop : Stop) : Type 0 where
+  pub why : WhyBefore s before now stop
   pub text : Appends printed printed_now []
 
 -- a view stops behind the first line of the report
@@ -344,4 +363,4 @@ pub record StopsWithin (asked : Asked) (s : Sources) (printed printed_now : Opti
 -- why a view stops whose words were accepted, and what was printed before
 abbrev pub FilesStop : (asked : Asked) (s : Sources) (printed printed_now : Option (List ℕ)) (before : FaultCounts) (now : Moment) → Stop → Type 0
 FilesStop asked s printed printed_now before now stop =
-    StopsBefore s printed printed_now (SourceRose before (faults_of now)) stop ⊎ StopsWithin asked s printed printed_now before now stop
+    StopsBefore s printed printed_now before now stop ⊎ StopsWithin asked s printed printed_now before now stop

@@ -16,10 +16,10 @@ pub record Going (viewer : Viewer) (head : Head) (before now : Ends) (report lef
   pub so_far : SoFar viewer head before now items
   pub told : Consumes report left (lines_text (lines_of items))
 
--- the last line of a run was taken of the report, where no line of the second engine is wanting
-pub record ToldEnd (turn : Turn) (report left : Option (List ℕ)) : Type 0 where
+-- no line of the second engine is due, and the last line of a run with as many records and frames as were read was taken of the report
+pub record ToldEnd (turn : Turn) (left next : Option (List ℕ)) : Type 0 where
   pub first : turn.second ≡ false
-  pub taken : Consumes report left (last_text (End turn.done turn.frames))
+  pub taken : Consumes left next (last_text (End turn.done turn.frames))
 
 -- some items were taken, and then the last line of the report
 pub record HasEnded (viewer : Viewer) (head : Head) (before now : Ends) (report left next : Option (List ℕ)) : Type 0 where

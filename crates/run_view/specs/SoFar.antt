@@ -155,7 +155,7 @@ pub record Closed (viewer : Viewer) (old now : Option (List ℕ)) (answered : �
   pub prints : Appends old now (closing_shown viewer)
   pub status : answered ≡ answer_of viewer.asked.print (notes_in viewer.tally)
 
--- the view reads on, and prints at the end what it would have printed before
+-- the later view has the same words, form, tally and printing and the same numbers of records and frames, so that it prints the same at the end
 pub record Closes (viewer last : Viewer) : Type 0 where
   pub asked : last.asked ≡ viewer.asked
   pub form : last.form ≡ viewer.form

@@ -2,6 +2,7 @@
 -- source had left at first, and `left` what it has left now, where it tells them.
 use Rattle.std.specs.Prelude.{◌≡◌, ◌≢◌, ◌⊎◌, ℕ, false, List, length, drop, Option, Some, None, Ok, Err, IfSome}
 use Rattle.edge_io.specs.Faults.{Rose}
+use Rattle.edge_io.specs.Octets.{TakesFewer}
 use Rattle.edge_io.specs.Seen.{Seen}
 use Rattle.wire_base.specs.declared.address.Link.{Link}
 use Rattle.pcap_file.specs.declared.head.Head.{Head}
@@ -14,7 +15,7 @@ use Rattle.capture_input.specs.declared.fault.InputFault.{InputFault}
 use Rattle.capture_input.specs.declared.fault.InputFault.TheVariants as faults
 use Rattle.capture_input.specs.Faults.{is_read_fault, of_flaw}
 use Rattle.capture_input.specs.Inputs.{Walk, packets_in, place_behind, BeginsWith, FailsInHead, IsFlawed, Took}
-use Rattle.capture_input.specs.Reads.{StopsAt}
+use Rattle.capture_input.specs.Reads.{StopsAt, StopsInHead}
 
 -- the head of the input, where it is told, has this fault, at this offset; a failure of the source is none
 pub record InputHeadFails (input : Option (List ℕ)) (fault : InputFault) (offset : ℕ) : Type 0 where
@@ -30,6 +31,13 @@ pub record InputFailsBehind (input : Option (List ℕ)) (head : Head) (packets :
   pub packets_are : packets_in walk ≡ packets
   pub flawed : IfSome left (λ rest. IsFlawed None head walk rest fault)
   pub place : offset ≡ place_behind walk
+
+-- The input failed in its head. Where it tells its octets, fewer than 24 were taken of a classic file, and of a pcapng file whole blocks, none of them
+-- an interface, and only a part of the next block.
+pub record InputHeadUnread (input : Option (List ℕ)) (before : ℕ) (now : Seen) : Type 0 where
+  pub rose : Rose before now.faults
+  pub offset : ℕ
+  pub part : StopsInHead None input now.octets faults.ReadFault offset
 
 -- The input failed right behind this head and these records: what was taken of it, where it tells that, has no more of them, and of what follows
 -- only a part.
@@ -52,6 +60,11 @@ pub record OutputHeadFails (output : Option (List ℕ)) (fault : InputFault) (of
   pub own : is_read_fault fault ≡ false
   pub has : IfSome output (λ octets. (flaw : classic.Flaw) × (fault ≡ of_flaw flaw) × (head_of octets ≡ Err flaw))
   pub place : offset ≡ 0
+
+-- The output failed in its head: fewer than the 24 octets of a head were taken of it.
+pub record OutputHeadUnread (output : Option (List ℕ)) (before : ℕ) (now : Seen) : Type 0 where
+  pub rose : Rose before now.faults
+  pub part : TakesFewer output now.octets 24
 
 -- right behind this head and these frames the output, where it is told, has this fault, at this offset
 pub record OutputFailsBehind (output : Option (List ℕ)) (head : Head) (frames : List Packet) (fault : InputFault) (offset : ℕ) : Type 0 where

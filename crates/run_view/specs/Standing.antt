@@ -1,7 +1,6 @@
 -- Where the readers of the input and of the output stand (this project's profile). Records and frames are lists with the newest at the head. `all` is
 -- what a source had left at first, and `left` what it has left now, where it tells them.
 use Rattle.std.specs.Prelude.{◌≡◌, ◌⊎◌, ℕ, true, List, [], ◌∷◌, length, Option, Some, None, IfSome}
-use Rattle.edge_io.specs.Faults.{Rose}
 use Rattle.edge_io.specs.Seen.{Seen}
 use Rattle.wire_base.specs.declared.address.Link.{Link}
 use Rattle.pcap_file.specs.declared.head.Head.{Head}
@@ -13,7 +12,7 @@ use Rattle.pcap_file.specs.Reads.{shown}
 use Rattle.capture_input.specs.declared.input.Input.{Input}
 use Rattle.capture_input.specs.Inputs.{Walk, packets_in, Took, TookAll}
 use Rattle.capture_input.specs.Reading.{Behind, head_in, is_open_in}
-use Rattle.run_view.specs.Sources.{InputHeadFails, InputFailsBehind, InputUnread, TookFrames, OutputHeadFails, OutputFailsBehind, OutputUnread, IsOfOtherLink}
+use Rattle.run_view.specs.Sources.{InputHeadFails, InputHeadUnread, InputFailsBehind, InputUnread, TookFrames, OutputHeadFails, OutputHeadUnread, OutputFailsBehind, OutputUnread, IsOfOtherLink}
 use Rattle.run_view.specs.declared.stop.Stop.{Stop}
 use Rattle.run_view.specs.declared.stop.Stop.TheVariants as stops
 
@@ -36,9 +35,9 @@ pub record InputOpened (input : Input) (all left : Option (List ℕ)) : Type 0 w
   pub stands : InputAt input (head_in input) all left []
 
 -- why the head of the input was not read
-abbrev pub InputHeadStops : (all : Option (List ℕ)) → (before now : ℕ) → Stop → Type 0
+abbrev pub InputHeadStops : (all : Option (List ℕ)) → (before : ℕ) → (now : Seen) → Stop → Type 0
 InputHeadStops all before now (stops.Input fault offset) = InputHeadFails all fault offset
-InputHeadStops all before now stops.Unread = Rose before now
+InputHeadStops all before now stops.Unread = InputHeadUnread all before now
 InputHeadStops all before now _ = ⊥
 
 -- why no record was read of the input behind these
@@ -60,9 +59,9 @@ pub record OutputAt (reader : Reading) (head : Head) (all left : Option (List �
   pub head_is : reader.head ≡ head
 
 -- why the head of the output was not read, or not taken where the input has this link
-abbrev pub OutputHeadStops : (link : Link) → (all : Option (List ℕ)) → (before now : ℕ) → Stop → Type 0
+abbrev pub OutputHeadStops : (link : Link) → (all : Option (List ℕ)) → (before : ℕ) → (now : Seen) → Stop → Type 0
 OutputHeadStops link all before now (stops.Output fault offset) = OutputHeadFails all fault offset ⊎ IsOfOtherLink link all fault offset
-OutputHeadStops link all before now stops.Unread = Rose before now
+OutputHeadStops link all before now stops.Unread = OutputHeadUnread all before now
 OutputHeadStops link all before now _ = ⊥
 
 -- why no frame was read of the output behind these

@@ -1,18 +1,19 @@
--- Why a view stops at a line of the report, or at the end of the three files, by what stops it (this project's profile).
+-- Why a view stops at a line of the report, or at the end of the three files, by what stops it (this project's profile). `read` and `written` are what
+-- the input and the output had left before the call, `first` the counts of faults before it, and `last` the moment after it.
 use Rattle.std.specs.Prelude.{ℕ, List, Option}
-use Rattle.edge_io.specs.Faults.{Rose}
+use Rattle.edge_io.specs.Seen.{Seen}
 use Rattle.pcap_file.specs.declared.head.Head.{Head}
 use Rattle.rule_book.specs.Entries.{PlainEntry}
-use Rattle.run_view.specs.Causes.{BeginsAmiss, FaultCounts, HasNextLine, Moment, WhyBehind, sources_of}
+use Rattle.run_view.specs.Causes.{BeginsAmiss, FaultCounts, HasNextLine, Moment, ReportUnread, WhyBehind, sources_of}
 use Rattle.run_view.specs.Going.{Going, HasEnded}
 use Rattle.run_view.specs.SoFar.{Ends, ends_of}
 use Rattle.run_view.specs.declared.stop.Stop.{Stop}
 use Rattle.run_view.specs.declared.stop.Stop.TheVariants as stops
 use Rattle.run_view.specs.declared.viewer.Viewer.{Viewer}
 
--- why the first line of the report was not read
-abbrev pub FirstStops : (report : Option (List ℕ)) → (before now : ℕ) → Stop → Type 0
-FirstStops report before now stops.Unread = Rose before now
+-- why the first line of the report was not accepted: the report failed, or it begins with no first line
+abbrev pub FirstStops : (report : Option (List ℕ)) → (before : ℕ) → (now : Seen) → Stop → Type 0
+FirstStops report before now stops.Unread = ReportUnread report before now
 FirstStops report before now (stops.Report line) = BeginsAmiss report line
 FirstStops report before now _ = ⊥
 

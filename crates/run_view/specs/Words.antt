@@ -1,5 +1,5 @@
 -- The words of `normview` (this project's profile): options, each at most once, and then the names of three files. A word is the list of its octets.
-use Rattle.std.specs.Prelude.{ℕ, ◌==◌, ◌&&◌, not, get_or, slice_set, replicate, Bool, true, false, List, [], ◌∷◌, Option, Some, None, is_some, option_map, codes, if◌then◌else◌}
+use Rattle.std.specs.Prelude.{ℕ, ◌==◌, ◌&&◌, not, get_or, slice_set, replicate, Bool, true, false, List, [], ◌∷◌, Option, Some, None, option_map, codes, if◌then◌else◌}
 use Rattle.std.specs.List.{list_any, slice_split}
 use Rattle.std.specs.Result.{result_ok}
 use Rattle.std.specs.Str.{bytes_eq}
@@ -117,35 +117,19 @@ abbrev pub with_print : Asked → Option Print → Option Asked
 with_print asked None = None
 with_print asked (Some print) = option_map (λ both. record asked { print = both }) (both_printed asked.print print)
 
--- one more condition; none is given twice
-abbrev pub with_rules : Asked → Option (List Bool) → Option Asked
-with_rules asked None = None
-with_rules asked (Some names) = if is_some asked.rules then None else Some (record asked { rules = Some names })
+-- the value given for a condition; None if there is no value, or if one was given before
+abbrev pub once : {T : Type 0} → (before given : Option T) → Option T
+once None given = given
+once (Some before) given = None
 
-abbrev pub with_era : Asked → Option EraAsked → Option Asked
-with_era asked None = None
-with_era asked (Some era) = if is_some asked.era then None else Some (record asked { era = Some era })
-
-abbrev pub with_verdicts : Asked → Option (List Bool) → Option Asked
-with_verdicts asked None = None
-with_verdicts asked (Some names) = if is_some asked.verdicts then None else Some (record asked { verdicts = Some names })
-
-abbrev pub with_sides : Asked → Option (List Bool) → Option Asked
-with_sides asked None = None
-with_sides asked (Some names) = if is_some asked.sides then None else Some (record asked { sides = Some names })
-
-abbrev pub with_host : Asked → Option Prefix → Option Asked
-with_host asked None = None
-with_host asked (Some prefix) = if is_some asked.host then None else Some (record asked { host = Some prefix })
-
--- one more option with this value
+-- one more option with this value; None if the value is none of this option, or the option does not go with those before
 abbrev pub with_choice : Choice → Asked → (value : Text) → Option Asked
 with_choice ByTable asked value = with_print asked (table_named value)
-with_choice ByRule asked value = with_rules asked (listed ByRule value)
-with_choice ByEra asked value = with_era asked (era_named value)
-with_choice ByVerdict asked value = with_verdicts asked (listed ByVerdict value)
-with_choice BySide asked value = with_sides asked (listed BySide value)
-with_choice ByHost asked value = with_host asked (host_named value)
+with_choice ByRule asked value = option_map (λ names. record asked { rules = Some names }) (once asked.rules (listed ByRule value))
+with_choice ByEra asked value = option_map (λ era. record asked { era = Some era }) (once asked.era (era_named value))
+with_choice ByVerdict asked value = option_map (λ names. record asked { verdicts = Some names }) (once asked.verdicts (listed ByVerdict value))
+with_choice BySide asked value = option_map (λ names. record asked { sides = Some names }) (once asked.sides (listed BySide value))
+with_choice ByHost asked value = option_map (λ prefix. record asked { host = Some prefix }) (once asked.host (host_named value))
 
 -- what a word is: `--json`, `--notes`, an option with its value behind `=`, an option whose value is the next word, the first of the names, or none of these
 pub data Word : Type 0 where

@@ -1,7 +1,7 @@
 //! The ends of the three files and of the output.
 ghost use Rattle.std.specs.Prelude.{◌≡◌, List, ℕ, [], IfErr, OnOk};
 ghost use Rattle.std.specs.declared.option.Option.{Option};
-ghost use Rattle.edge_io.specs.Faults.{RisesAtErr};
+ghost use Rattle.edge_io.specs.Faults.{RisesOnlyAtErr};
 ghost use Rattle.edge_io.specs.Seen.{Seen};
 ghost use Rattle.pcap_file.specs.declared.head.Head.{Head};
 ghost use Rattle.run_view.specs.Ahead.{left_in};
@@ -35,9 +35,9 @@ pub(crate) fn check_ends<I: Source, O: Source, R: Source>(
         (moment_of (I.left input.new) (I.fault_count input.new) (O.left output.new) (O.fault_count output.new)
         (R.left report.new) (R.fault_count report.new) out.octets out.faults) stop) }
     ensures same { OnOk result (Closes viewer.old viewer.new) }
-    ensures input_faults { RisesAtErr (I.fault_count input.old) (I.fault_count input.new) result }
-    ensures output_faults { RisesAtErr (O.fault_count output.old) (O.fault_count output.new) result }
-    ensures report_faults { RisesAtErr (R.fault_count report.old) (R.fault_count report.new) result }
+    ensures input_faults { RisesOnlyAtErr (I.fault_count input.old) (I.fault_count input.new) result }
+    ensures output_faults { RisesOnlyAtErr (O.fault_count output.old) (O.fault_count output.new) result }
+    ensures report_faults { RisesOnlyAtErr (R.fault_count report.old) (R.fault_count report.new) result }
 {
     let Ok(more) = viewer.lines.goes_on(report) else {
         return Err(Stop::Unread);
@@ -61,7 +61,7 @@ pub(crate) fn flush<K: Sink>(out: &mut K) -> Result<(), Stop>
     ensures flushed { OnOk result (K.held out.new ≡ K.held out.old) }
     ensures stops { IfErr result (λ stop. (stop ≡ Unwritten) × Cut (K.held out.old) (K.held out.new) (K.fault_count out.old) (K.fault_count out.new)
         []) }
-    ensures faults { RisesAtErr (K.fault_count out.old) (K.fault_count out.new) result }
+    ensures faults { RisesOnlyAtErr (K.fault_count out.old) (K.fault_count out.new) result }
 {
     match out.flush() {
         Ok(()) => Ok(()),

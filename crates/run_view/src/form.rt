@@ -1,7 +1,8 @@
 //! The form of a report.
 ghost use Rattle.std.specs.Prelude.{◌≡◌, IfErr, IfOk};
 ghost use Rattle.std.specs.Io.KnownBytes.{Consumes};
-ghost use Rattle.edge_io.specs.Faults.{RisesAtErr};
+ghost use Rattle.edge_io.specs.Faults.{RisesOnlyAtErr};
+ghost use Rattle.edge_io.specs.Seen.{seen_of};
 ghost use Rattle.run_view.specs.Ahead.{left_in};
 ghost use Rattle.run_view.specs.Forms as spec;
 ghost use Rattle.run_view.specs.Why.{FirstStops};
@@ -23,10 +24,11 @@ pub enum Form {
 
 /// Reads the first line of the report, and returns its form.
 pub(crate) fn read_form<R: Source>(lines: &mut Lines, report: &mut R) -> Result<Form, Stop>
-    ensures stops { IfErr result (FirstStops (left_in lines.old (R.left report.old)) (R.fault_count report.old) (R.fault_count report.new)) }
+    ensures stops { IfErr result (FirstStops (left_in lines.old (R.left report.old)) (R.fault_count report.old)
+        (seen_of (R.left report.new) (R.fault_count report.new))) }
     ensures first { IfOk result (λ form. Consumes (left_in lines.old (R.left report.old)) (left_in lines.new (R.left report.new))
         (spec.heading form)) }
-    ensures faults { RisesAtErr (R.fault_count report.old) (R.fault_count report.new) result }
+    ensures faults { RisesOnlyAtErr (R.fault_count report.old) (R.fault_count report.new) result }
 {
     let Ok(()) = lines.next(report) else {
         return Err(Stop::Unread);

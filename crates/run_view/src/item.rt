@@ -7,7 +7,7 @@ ghost use Rattle.rule_book.specs.Entries.{plain};
 ghost use Rattle.run_view.specs.Eras.{plus};
 ghost use Rattle.run_view.specs.Items as spec;
 ghost use Rattle.run_view.specs.Items.{waits};
-ghost use Rattle.edge_io.specs.Faults.{RisesAtErr};
+ghost use Rattle.edge_io.specs.Faults.{RisesOnlyAtErr};
 ghost use Rattle.edge_io.specs.Seen.{seen_of};
 ghost use Rattle.run_view.specs.Standing.{OutputAt};
 ghost use Rattle.run_view.specs.Steps.{FrameAdded, FrameStops, FramesRead, FramesStop, Holds, IsGathered, MayRead};
@@ -145,7 +145,7 @@ pub(crate) fn gather<O: Source>(
     ensures stops { IfErr result (λ stop. (all : Option (List ℕ)) (head : Head) (older : List Packet) →
         OutputAt frames.old.reader head all (O.left output.old) older →
         FramesStop frames.old all head older packets (O.fault_count output.old) (seen_of (O.left output.new) (O.fault_count output.new)) stop) }
-    ensures faults { RisesAtErr (O.fault_count output.old) (O.fault_count output.new) result }
+    ensures faults { RisesOnlyAtErr (O.fault_count output.old) (O.fault_count output.new) result }
 {
     for number in 0..packets {
         add_frame(alloc, original, number, gathered, frames, output)?;
@@ -186,7 +186,7 @@ fn add_frame<O: Source>(
     ensures stops { IfErr result (λ stop. (all : Option (List ℕ)) (head : Head) (behind : List Packet) →
         OutputAt frames.old.reader head all (O.left output.old) behind →
         FrameStops frames.old all head behind (O.fault_count output.old) (seen_of (O.left output.new) (O.fault_count output.new)) stop) }
-    ensures faults { RisesAtErr (O.fault_count output.old) (O.fault_count output.new) result }
+    ensures faults { RisesOnlyAtErr (O.fault_count output.old) (O.fault_count output.new) result }
 {
     let Some(frame) = next_frame(&mut frames.reader, output, &mut frames.buffer[..])? else {
         return Err(Stop::Frame(frames.count + 1));

@@ -1,7 +1,7 @@
 //! What is printed of a run.
 ghost use Rattle.std.specs.Prelude.{◌≡◌, ◌≤◌, if◌then◌else◌, option_map, option_and_then, IfErr, IfOk, OnOk, string_bytes};
 ghost use Rattle.std.specs.Io.KnownBytes.{Appends};
-ghost use Rattle.edge_io.specs.Faults.{RisesAtErr};
+ghost use Rattle.edge_io.specs.Faults.{RisesOnlyAtErr};
 ghost use Rattle.run_view.specs.Printed.{PartStops, PrintStops, summary_shown};
 ghost use Rattle.run_view.specs.SoFar.{notes_in};
 ghost use Rattle.run_view.specs.Rows.{plain_pair, table_of};
@@ -39,7 +39,7 @@ pub(crate) fn format_of(print: Print) -> Format
 pub(crate) fn print<K: Sink>(text: &[u8], out: &mut K) -> Result<(), Stop>
     ensures prints { OnOk result (Appends (K.held out.old) (K.held out.new) text.now) }
     ensures stops { IfErr result (PrintStops (K.held out.old) (K.held out.new) (K.fault_count out.old) (K.fault_count out.new) text.now) }
-    ensures faults { RisesAtErr (K.fault_count out.old) (K.fault_count out.new) result }
+    ensures faults { RisesOnlyAtErr (K.fault_count out.old) (K.fault_count out.new) result }
 {
     match out.put(text) {
         Ok(()) => Ok(()),
@@ -71,7 +71,7 @@ pub(crate) struct Shown<'a> {
 pub(crate) fn print_opening<K: Sink>(alloc: Global, print: Print, out: &mut K) -> Result<(), Stop>
     ensures prints { OnOk result (Appends (K.held out.old) (K.held out.new) (spec.opening print)) }
     ensures stops { IfErr result (PrintStops (K.held out.old) (K.held out.new) (K.fault_count out.old) (K.fault_count out.new) (spec.opening print)) }
-    ensures faults { RisesAtErr (K.fault_count out.old) (K.fault_count out.new) result }
+    ensures faults { RisesOnlyAtErr (K.fault_count out.old) (K.fault_count out.new) result }
 {
     match print {
         Print::Text | Print::Json | Print::Eras | Print::Notes | Print::JsonNotes => Ok(()),
@@ -104,7 +104,7 @@ pub(crate) fn print_summary<K: Sink>(
         (spec.summary_line format (summary_shown size.both size.records size.frames tally.now))) }
     ensures stops { IfErr result (PrintStops (K.held out.old) (K.held out.new) (K.fault_count out.old) (K.fault_count out.new)
         (spec.summary_line format (summary_shown size.both size.records size.frames tally.now))) }
-    ensures faults { RisesAtErr (K.fault_count out.old) (K.fault_count out.new) result }
+    ensures faults { RisesOnlyAtErr (K.fault_count out.old) (K.fault_count out.new) result }
 {
     let Ok(types) = tally.notes.types(alloc) else {
         return Err(Stop::Memory);
@@ -140,7 +140,7 @@ pub(crate) fn print_rest<K: Sink>(
         (spec.behind_summary format (table_of tally.now.eras) (table_of tally.now.second_eras) (notes_in tally.now))) }
     ensures stops { IfErr result (PartStops (K.held out.old) (K.held out.new) (K.fault_count out.old) (K.fault_count out.new)
         (spec.behind_summary format (table_of tally.now.eras) (table_of tally.now.second_eras) (notes_in tally.now))) }
-    ensures faults { RisesAtErr (K.fault_count out.old) (K.fault_count out.new) result }
+    ensures faults { RisesOnlyAtErr (K.fault_count out.old) (K.fault_count out.new) result }
 {
     print_eras(alloc, format, tally, out)?;
     print_notes(alloc, format, tally, out)
@@ -156,7 +156,7 @@ pub(crate) fn print_notes<K: Sink>(
     ensures prints { OnOk result (Appends (K.held out.old) (K.held out.new) (spec.note_lines format (notes_in tally.now))) }
     ensures stops { IfErr result (PartStops (K.held out.old) (K.held out.new) (K.fault_count out.old) (K.fault_count out.new)
         (spec.note_lines format (notes_in tally.now))) }
-    ensures faults { RisesAtErr (K.fault_count out.old) (K.fault_count out.new) result }
+    ensures faults { RisesOnlyAtErr (K.fault_count out.old) (K.fault_count out.new) result }
 {
     match text_of_notes(alloc, format, tally) {
         Ok(text) => print(text.as_bytes(), out),
@@ -212,7 +212,7 @@ pub(crate) fn print_chosen<K: Sink>(
     ensures prints { OnOk result (Appends (K.held out.old) (K.held out.new) (spec.chosen_line format records)) }
     ensures stops { IfErr result (PrintStops (K.held out.old) (K.held out.new) (K.fault_count out.old) (K.fault_count out.new)
         (spec.chosen_line format records)) }
-    ensures faults { RisesAtErr (K.fault_count out.old) (K.fault_count out.new) result }
+    ensures faults { RisesOnlyAtErr (K.fault_count out.old) (K.fault_count out.new) result }
 {
     match chosen_line(alloc, format, records) {
         Ok(line) => print(line.as_bytes(), out),
@@ -224,7 +224,7 @@ pub(crate) fn print_chosen<K: Sink>(
 pub(crate) fn print_era_heading<K: Sink>(alloc: Global, out: &mut K) -> Result<(), Stop>
     ensures prints { OnOk result (Appends (K.held out.old) (K.held out.new) spec.era_heading) }
     ensures stops { IfErr result (PrintStops (K.held out.old) (K.held out.new) (K.fault_count out.old) (K.fault_count out.new) spec.era_heading) }
-    ensures faults { RisesAtErr (K.fault_count out.old) (K.fault_count out.new) result }
+    ensures faults { RisesOnlyAtErr (K.fault_count out.old) (K.fault_count out.new) result }
 {
     match heading_of_eras(alloc) {
         Ok(line) => print(line.as_bytes(), out),
@@ -251,7 +251,7 @@ pub(crate) fn print_eras<K: Sink>(
         (spec.eras_text format (table_of tally.now.eras) (table_of tally.now.second_eras))) }
     ensures stops { IfErr result (PartStops (K.held out.old) (K.held out.new) (K.fault_count out.old) (K.fault_count out.new)
         (spec.eras_text format (table_of tally.now.eras) (table_of tally.now.second_eras))) }
-    ensures faults { RisesAtErr (K.fault_count out.old) (K.fault_count out.new) result }
+    ensures faults { RisesOnlyAtErr (K.fault_count out.old) (K.fault_count out.new) result }
 {
     print_table(alloc, format, false, &tally.eras, out)?;
     print_table(alloc, format, true, &tally.second_eras, out)
@@ -268,7 +268,7 @@ fn print_table<K: Sink>(
     ensures prints { OnOk result (Appends (K.held out.old) (K.held out.new) (spec.table_text format second (table_of eras.now))) }
     ensures stops { IfErr result (PartStops (K.held out.old) (K.held out.new) (K.fault_count out.old) (K.fault_count out.new)
         (spec.table_text format second (table_of eras.now))) }
-    ensures faults { RisesAtErr (K.fault_count out.old) (K.fault_count out.new) result }
+    ensures faults { RisesOnlyAtErr (K.fault_count out.old) (K.fault_count out.new) result }
 {
     for place in 0..eras.len() {
         let Some((era, row)) = eras.get_index(place) else {
@@ -291,7 +291,7 @@ fn print_era<K: Sink>(
     ensures prints { OnOk result (Appends (K.held out.old) (K.held out.new) (spec.era_line format second (plain_pair (era, row.now)))) }
     ensures stops { IfErr result (PrintStops (K.held out.old) (K.held out.new) (K.fault_count out.old) (K.fault_count out.new)
         (spec.era_line format second (plain_pair (era, row.now)))) }
-    ensures faults { RisesAtErr (K.fault_count out.old) (K.fault_count out.new) result }
+    ensures faults { RisesOnlyAtErr (K.fault_count out.old) (K.fault_count out.new) result }
 {
     match line_of_era(alloc, format, second, era, row) {
         Ok(line) => print(line.as_bytes(), out),

@@ -1,7 +1,7 @@
 //! The lines of a record, which are printed together once the last of them was read.
 ghost use Rattle.std.specs.Prelude.{◌≡◌, true, false, IfErr, IfOk, OnOk, string_bytes};
 ghost use Rattle.std.specs.Io.KnownBytes.{Appends};
-ghost use Rattle.edge_io.specs.Faults.{RisesAtErr};
+ghost use Rattle.edge_io.specs.Faults.{RisesOnlyAtErr};
 ghost use Rattle.run_view.specs.Chosen as spec;
 ghost use Rattle.run_view.specs.Printed.{Cut, record_shown};
 ghost use Rattle.run_view.specs.Shows.{NotesLine, due_text, may_be_printed, met_shown, text_shown};
@@ -101,7 +101,7 @@ pub(crate) fn print_due<K: Sink>(printing: &Printing, out: &mut K) -> Result<(),
     ensures prints { OnOk result (Appends (K.held out.old) (K.held out.new) (due_text printing.now)) }
     ensures stops { IfErr result (λ stop. (stop ≡ Unwritten) × Cut (K.held out.old) (K.held out.new) (K.fault_count out.old) (K.fault_count out.new)
         (due_text printing.now)) }
-    ensures faults { RisesAtErr (K.fault_count out.old) (K.fault_count out.new) result }
+    ensures faults { RisesOnlyAtErr (K.fault_count out.old) (K.fault_count out.new) result }
 {
     if !printing.due {
         return Ok(());

@@ -1,7 +1,7 @@
 //! The records of the input and the frames of the output, read one by one.
 ghost use Rattle.std.specs.Prelude.{◌≡◌, ◌≤◌, ℕ, true, List, [], length, IfErr, IfOk, IfSome};
 ghost use Rattle.std.specs.declared.option.Option.{Option};
-ghost use Rattle.edge_io.specs.Faults.{RisesAtErr};
+ghost use Rattle.edge_io.specs.Faults.{RisesOnlyAtErr};
 ghost use Rattle.pcap_file.specs.Records.{Packet};
 ghost use Rattle.pcap_file.specs.declared.head.Head.{Head};
 ghost use Rattle.capture_input.specs.Reading.{is_open_in};
@@ -12,16 +12,16 @@ ghost use Rattle.wire_base.specs.declared.limits.TheConstants.{MAX_CAPTURED};
 
 use crate::Stop;
 use capture_input::laws::whole_is_input;
-use capture_input::{Input, InputFault};
+use capture_input::{Input, InputFault, OpenFault};
 use edge_io::Source;
-use pcap_file::{HeadFault, Reader, Record, RecordFault, read_head};
+use pcap_file::{Reader, Record, read_head};
 use wire_base::Link;
 
 /// Reads the head of the input.
 pub(crate) fn open_input<I: Source>(source: &mut I) -> Result<Input, Stop>
     ensures opened { IfOk result (λ input. InputOpened input (I.left source.old) (I.left source.new)) }
-    ensures stops { IfErr result (λ stop. InputHeadStops (I.left source.old) (I.fault_count source.old) (I.fault_count source.new) stop) }
-    ensures faults { RisesAtErr (I.fault_count source.old) (I.fault_count source.new) result }
+    ensures stops { IfErr result (InputHeadStops (I.left source.old) (I.fault_count source.old) (seen_of (I.left source.new) (I.fault_count source.new))) }
+    ensures faults { RisesOnlyAtErr (I.fault_count source.old) (I.fault_count source.new) result }
 {
     match Input::open(None, source) {
         Ok(input) => Ok(input),
@@ -46,7 +46,7 @@ pub(crate) fn next_record<'a, I: Source>(
     ensures stops { IfErr result (λ stop. (head : Head) (all : Option (List ℕ)) (packets : List Packet) →
         InputAt input.old head all (I.left source.old) packets →
         InputStops all head packets (I.fault_count source.old) (seen_of (I.left source.new) (I.fault_count source.new)) stop) }
-    ensures faults { RisesAtErr (I.fault_count source.old) (I.fault_count source.new) result }
+    ensures faults { RisesOnlyAtErr (I.fault_count source.old) (I.fault_count source.new) result }
 {
     whole_is_input();
     match input.next(source, buffer) {
@@ -76,8 +76,8 @@ pub(crate) fn open_output<O: Source>(link: Link, source: &mut O) -> Result<Reade
     ensures opened { IfOk result (λ reader. OutputAt reader reader.head (O.left source.old) (O.left source.new) []) }
     ensures goes_on { IfOk result (λ reader. reader.is_open ≡ true) }
     ensures same { IfOk result (λ reader. reader.head.link ≡ link) }
-    ensures stops { IfErr result (OutputHeadStops link (O.left source.old) (O.fault_count source.old) (O.fault_count source.new)) }
-    ensures faults { RisesAtErr (O.fault_count source.old) (O.fault_count source.new) result }
+    ensures stops { IfErr result (OutputHeadStops link (O.left source.old) (O.fault_count source.old) (seen_of (O.left source.new) (O.fault_count source.new))) }
+    ensures faults { RisesOnlyAtErr (O.fault_count source.old) (O.fault_count source.new) result }
 {
     match read_head(source) {
         Ok(head) => {
@@ -89,7 +89,10 @@ pub(crate) fn open_output<O: Source>(link: Link, source: &mut O) -> Result<Reade
                 offset: 0,
             })
         }
-        Err(fault) => Err(output_head_stop(fault)),
+        Err(fault) => {
+            let stop = OpenFault::from(fault);
+            Err(output_stop(stop.fault, stop.offset))
+        }
     }
 }
 
@@ -107,37 +110,26 @@ pub(crate) fn next_frame<'a, O: Source>(
     ensures stops { IfErr result (λ stop. (head : Head) (all : Option (List ℕ)) (frames : List Packet) →
         OutputAt reader.old head all (O.left source.old) frames →
         OutputStops all head frames (O.fault_count source.old) (seen_of (O.left source.new) (O.fault_count source.new)) stop) }
-    ensures faults { RisesAtErr (O.fault_count source.old) (O.fault_count source.new) result }
+    ensures faults { RisesOnlyAtErr (O.fault_count source.old) (O.fault_count source.new) result }
 {
     match reader.next(source, buffer) {
         Ok(given) => Ok(given),
-        Err(fault) => Err(output_stop(fault, reader.offset())),
+        Err(fault) => Err(output_stop(InputFault::from(fault), reader.offset())),
     }
 }
 
-// Returns the stop at a fault of the head of the output.
-fn output_head_stop(fault: HeadFault) -> Stop
-    ensures { result ≡ spec.output_head_stop fault }
-{
-    let fault = match fault {
-        HeadFault::Cut => InputFault::Cut,
-        HeadFault::Magic => InputFault::Magic,
-        HeadFault::Version => InputFault::Version,
-        HeadFault::Link => InputFault::Link,
-        HeadFault::ReadFault => return Stop::Unread,
-    };
-    Stop::Output { fault, offset: 0 }
-}
-
-// Returns the stop at a fault of a record of the output.
-fn output_stop(fault: RecordFault, offset: u64) -> Stop
+// Returns the stop at a fault of the output.
+fn output_stop(fault: InputFault, offset: u64) -> Stop
     ensures { result ≡ spec.output_stop fault offset }
 {
-    let fault = match fault {
-        RecordFault::Cut => InputFault::Cut,
-        RecordFault::Long => InputFault::Long,
-        RecordFault::TooMany => InputFault::Many,
-        RecordFault::ReadFault => return Stop::Unread,
-    };
-    Stop::Output { fault, offset }
+    match fault {
+        InputFault::ReadFault => Stop::Unread,
+        InputFault::Cut
+        | InputFault::Magic
+        | InputFault::Version
+        | InputFault::Link
+        | InputFault::Block
+        | InputFault::Long
+        | InputFault::Many => Stop::Output { fault, offset },
+    }
 }

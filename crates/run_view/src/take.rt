@@ -11,7 +11,7 @@ ghost use Rattle.run_view.specs.SoFar.{Ends, MayTake, SoFar, Taken, WentOn, Went
 ghost use Rattle.run_view.specs.Causes.{EntriesStop, counts_of, moment_of, sources_of};
 ghost use Rattle.run_view.specs.Going.{Going, IsSameRun, StepsTo};
 ghost use Rattle.run_view.specs.Why.{LineStops};
-ghost use Rattle.edge_io.specs.Faults.{RisesAtErr};
+ghost use Rattle.edge_io.specs.Faults.{RisesOnlyAtErr};
 ghost use Rattle.edge_io.specs.Seen.{Seen, seen_of};
 
 use crate::Stop;
@@ -56,10 +56,10 @@ pub(crate) fn step<I: Source, O: Source, R: Source, K: Sink>(
         (counts_of (I.fault_count input.old) (O.fault_count output.old) (R.fault_count report.old) (K.fault_count out.old))
         (moment_of (I.left input.new) (I.fault_count input.new) (O.left output.new) (O.fault_count output.new)
         (R.left report.new) (R.fault_count report.new) (K.held out.new) (K.fault_count out.new)) stop) }
-    ensures input_faults { RisesAtErr (I.fault_count input.old) (I.fault_count input.new) result }
-    ensures output_faults { RisesAtErr (O.fault_count output.old) (O.fault_count output.new) result }
-    ensures report_faults { RisesAtErr (R.fault_count report.old) (R.fault_count report.new) result }
-    ensures out_faults { RisesAtErr (K.fault_count out.old) (K.fault_count out.new) result }
+    ensures input_faults { RisesOnlyAtErr (I.fault_count input.old) (I.fault_count input.new) result }
+    ensures output_faults { RisesOnlyAtErr (O.fault_count output.old) (O.fault_count output.new) result }
+    ensures report_faults { RisesOnlyAtErr (R.fault_count report.old) (R.fault_count report.new) result }
+    ensures out_faults { RisesOnlyAtErr (K.fault_count out.old) (K.fault_count out.new) result }
 {
     let number = viewer.files.count + viewer.second_count + 2;
     let Ok(()) = viewer.lines.next(report) else {
@@ -127,8 +127,8 @@ fn take<I: Source, O: Source>(
           report = report_now;
           out = out_now;
         }) stop) }
-    ensures input_faults { RisesAtErr (I.fault_count input.old) (I.fault_count input.new) result }
-    ensures output_faults { RisesAtErr (O.fault_count output.old) (O.fault_count output.new) result }
+    ensures input_faults { RisesOnlyAtErr (I.fault_count input.old) (I.fault_count input.new) result }
+    ensures output_faults { RisesOnlyAtErr (O.fault_count output.old) (O.fault_count output.new) result }
 {
     if viewer.owed == 0 {
         take_first(alloc, viewer, entry, input, output)
@@ -161,8 +161,8 @@ fn take_first<I: Source, O: Source>(
           report = report_now;
           out = out_now;
         }) stop) }
-    ensures input_faults { RisesAtErr (I.fault_count input.old) (I.fault_count input.new) result }
-    ensures output_faults { RisesAtErr (O.fault_count output.old) (O.fault_count output.new) result }
+    ensures input_faults { RisesOnlyAtErr (I.fault_count input.old) (I.fault_count input.new) result }
+    ensures output_faults { RisesOnlyAtErr (O.fault_count output.old) (O.fault_count output.new) result }
 {
     let files = &mut viewer.files;
     let Some(record) = next_record(&mut files.input, input, &mut files.buffer[..])? else {
@@ -238,7 +238,7 @@ fn take_second<O: Source>(
           report = report_now;
           out = out_now;
         }) stop) }
-    ensures output_faults { RisesAtErr (O.fault_count output.old) (O.fault_count output.new) result }
+    ensures output_faults { RisesOnlyAtErr (O.fault_count output.old) (O.fault_count output.new) result }
 {
     viewer.owed -= 1;
     let before = viewer.files.frames.count;

@@ -1,7 +1,7 @@
 //! The view of a finished run.
 ghost use Rattle.std.specs.Prelude.{◌≡◌, ◌⊎◌, ◌<◌, ◌≤◌, [], map, string_bytes, true, false, IfErr, IfOk, None, OnOk};
 ghost use Rattle.std.specs.Io.KnownBytes.{Appends};
-ghost use Rattle.edge_io.specs.Faults.{RisesAtErr};
+ghost use Rattle.edge_io.specs.Faults.{RisesOnlyAtErr};
 ghost use Rattle.capture_input.specs.Reading.{is_open_in};
 ghost use Rattle.pcap_file.specs.declared.head.Head.{Head};
 ghost use Rattle.run_view.specs.Ahead.{left_in};
@@ -120,10 +120,10 @@ fn view_asked<I: Source, O: Source, R: Source, K: Sink>(
         (counts_of (I.fault_count input.old) (O.fault_count output.old) (R.fault_count report.old) (K.fault_count out.old))
         (moment_of (I.left input.new) (I.fault_count input.new) (O.left output.new) (O.fault_count output.new)
         (R.left report.new) (R.fault_count report.new) (K.held out.new) (K.fault_count out.new))) }
-    ensures input_faults { RisesAtErr (I.fault_count input.old) (I.fault_count input.new) result }
-    ensures output_faults { RisesAtErr (O.fault_count output.old) (O.fault_count output.new) result }
-    ensures report_faults { RisesAtErr (R.fault_count report.old) (R.fault_count report.new) result }
-    ensures out_faults { RisesAtErr (K.fault_count out.old) (K.fault_count out.new) result }
+    ensures input_faults { RisesOnlyAtErr (I.fault_count input.old) (I.fault_count input.new) result }
+    ensures output_faults { RisesOnlyAtErr (O.fault_count output.old) (O.fault_count output.new) result }
+    ensures report_faults { RisesOnlyAtErr (R.fault_count report.old) (R.fault_count report.new) result }
+    ensures out_faults { RisesOnlyAtErr (K.fault_count out.old) (K.fault_count out.new) result }
 {
     let reader = open_input(input)?;
     let frames = open_output(reader.head().link, output)?;
@@ -208,10 +208,10 @@ fn view_entries<I: Source, O: Source, R: Source, K: Sink>(
         (counts_of (I.fault_count input.old) (O.fault_count output.old) (R.fault_count report.old) (K.fault_count out.old))
         (moment_of (I.left input.new) (I.fault_count input.new) (O.left output.new) (O.fault_count output.new)
         (R.left report.new) (R.fault_count report.new) (K.held out.new) (K.fault_count out.new)) stop) }
-    ensures input_faults { RisesAtErr (I.fault_count input.old) (I.fault_count input.new) result }
-    ensures output_faults { RisesAtErr (O.fault_count output.old) (O.fault_count output.new) result }
-    ensures report_faults { RisesAtErr (R.fault_count report.old) (R.fault_count report.new) result }
-    ensures out_faults { RisesAtErr (K.fault_count out.old) (K.fault_count out.new) result }
+    ensures input_faults { RisesOnlyAtErr (I.fault_count input.old) (I.fault_count input.new) result }
+    ensures output_faults { RisesOnlyAtErr (O.fault_count output.old) (O.fault_count output.new) result }
+    ensures report_faults { RisesOnlyAtErr (R.fault_count report.old) (R.fault_count report.new) result }
+    ensures out_faults { RisesOnlyAtErr (K.fault_count out.old) (K.fault_count out.new) result }
 {
     'entries: while step(alloc, viewer, input, output, report, out)? {}
     check_ends(viewer, input, output, report)?;
@@ -224,7 +224,7 @@ fn close<K: Sink>(alloc: Global, viewer: &Viewer, out: &mut K) -> Result<u8, Sto
     ensures answers { IfOk result (λ answered. viewed.IsToItsEnd answered) }
     ensures stops { IfErr result (PartStops (K.held out.old) (K.held out.new) (K.fault_count out.old) (K.fault_count out.new)
         (closing_shown viewer.now)) }
-    ensures faults { RisesAtErr (K.fault_count out.old) (K.fault_count out.new) result }
+    ensures faults { RisesOnlyAtErr (K.fault_count out.old) (K.fault_count out.new) result }
 {
     let Ok(answered) = answer(alloc, viewer.asked.print, &viewer.tally) else {
         return Err(Stop::Memory);
@@ -239,7 +239,7 @@ fn print_end<K: Sink>(alloc: Global, viewer: &Viewer, out: &mut K) -> Result<(),
     ensures prints { OnOk result (Appends (K.held out.old) (K.held out.new) (closing_shown viewer.now)) }
     ensures stops { IfErr result (PartStops (K.held out.old) (K.held out.new) (K.fault_count out.old) (K.fault_count out.new)
         (closing_shown viewer.now)) }
-    ensures faults { RisesAtErr (K.fault_count out.old) (K.fault_count out.new) result }
+    ensures faults { RisesOnlyAtErr (K.fault_count out.old) (K.fault_count out.new) result }
 {
     match viewer.asked.print {
         Print::Text => sum_up(alloc, Format::Text, viewer, out),
@@ -260,7 +260,7 @@ fn sum_up<K: Sink>(alloc: Global, format: Format, viewer: &Viewer, out: &mut K) 
     ensures prints { OnOk result (Appends (K.held out.old) (K.held out.new) (summed_shown format viewer.now)) }
     ensures stops { IfErr result (PartStops (K.held out.old) (K.held out.new) (K.fault_count out.old) (K.fault_count out.new)
         (summed_shown format viewer.now)) }
-    ensures faults { RisesAtErr (K.fault_count out.old) (K.fault_count out.new) result }
+    ensures faults { RisesOnlyAtErr (K.fault_count out.old) (K.fault_count out.new) result }
 {
     if has_choice(&viewer.asked) {
         return print_chosen(alloc, format, viewer.printing.records, out);

@@ -205,72 +205,31 @@ fn with_print(asked: Asked, print: Option<Print>) -> Option<Asked>
     Some(Asked { print, ..asked })
 }
 
-// Adds an option with this value, unless it was given before or the value is none.
+// Adds an option with this value, unless the value is none or the option does not go with those
+// before.
 fn with_choice(choice: Choice, asked: Asked, value: &[u8]) -> Option<Asked>
     ensures { result ≡ spec.with_choice choice asked value.now }
 {
+    let mut more = asked;
     match choice {
-        Choice::ByTable => with_print(asked, table_named(value)),
-        Choice::ByRule => with_rules(asked, listed(choice, value)),
-        Choice::ByEra => with_era(asked, era_named(value)),
-        Choice::ByVerdict => with_verdicts(asked, listed(choice, value)),
-        Choice::BySide => with_sides(asked, listed(choice, value)),
-        Choice::ByHost => with_host(asked, host_named(value)),
+        Choice::ByTable => return with_print(asked, table_named(value)),
+        Choice::ByRule => more.rules = Some(once(asked.rules, listed(choice, value))?),
+        Choice::ByEra => more.era = Some(once(asked.era, era_named(value))?),
+        Choice::ByVerdict => more.verdicts = Some(once(asked.verdicts, listed(choice, value))?),
+        Choice::BySide => more.sides = Some(once(asked.sides, listed(choice, value))?),
+        Choice::ByHost => more.host = Some(once(asked.host, host_named(value))?),
     }
+    Some(more)
 }
 
-fn with_rules(asked: Asked, names: Option<Names>) -> Option<Asked>
-    ensures { result ≡ spec.with_rules asked names }
+// Returns the value of a condition, unless it was given before or the value is none.
+fn once<T: Copy>(before: Option<T>, given: Option<T>) -> Option<T>
+    ensures { result ≡ spec.once before given }
 {
-    if names.is_none() || asked.rules.is_some() {
-        return None;
+    match before {
+        None => given,
+        Some(_) => None,
     }
-    Some(Asked {
-        rules: names,
-        ..asked
-    })
-}
-
-fn with_era(asked: Asked, era: Option<EraAsked>) -> Option<Asked>
-    ensures { result ≡ spec.with_era asked era }
-{
-    if era.is_none() || asked.era.is_some() {
-        return None;
-    }
-    Some(Asked { era, ..asked })
-}
-
-fn with_verdicts(asked: Asked, names: Option<Names>) -> Option<Asked>
-    ensures { result ≡ spec.with_verdicts asked names }
-{
-    if names.is_none() || asked.verdicts.is_some() {
-        return None;
-    }
-    Some(Asked {
-        verdicts: names,
-        ..asked
-    })
-}
-
-fn with_sides(asked: Asked, names: Option<Names>) -> Option<Asked>
-    ensures { result ≡ spec.with_sides asked names }
-{
-    if names.is_none() || asked.sides.is_some() {
-        return None;
-    }
-    Some(Asked {
-        sides: names,
-        ..asked
-    })
-}
-
-fn with_host(asked: Asked, host: Option<Prefix>) -> Option<Asked>
-    ensures { result ≡ spec.with_host asked host }
-{
-    if host.is_none() || asked.host.is_some() {
-        return None;
-    }
-    Some(Asked { host, ..asked })
 }
 
 fn is_json(word: &[u8]) -> bool

@@ -12,10 +12,9 @@ pub returns-in_default-clause-stops : goal.returns-in_default-clause-stops
 returns-in_default-clause-stops g c out head before printed report left ended =
     inl
     (record {
-      rose = c.in_default.ensures.cause.failed;
       behind = _;
       lines = inr (took_last c.args.viewer.now head before _ report left _ ended);
-      part = c.in_default.ensures.unread;
+      unread = record { rose = c.in_default.ensures.cause.failed; part = c.in_default.ensures.unread };
     })
 
 pub returns-then-more-clause-stops : goal.returns-then-more-clause-stops

@@ -4,6 +4,6 @@ use Rattle.run_view.proofs.sources.next_frame.Goals as goal
 
 pub returns-in-Err-clause-stops : goal.returns-in-Err-clause-stops
 returns-in-Err-clause-stops g c head all frames at =
-    rw c.output_stop.ensures
+    rw (c.output_stop.ensures, c.from.ensures)
     (frame_stops c.args.reader.now head all _ _ frames _ _ _ c.in-Err.fault c.in-Err.ensures.octets (λ is. c.in-Err.ensures.cause (ap Err is))
     (c.offset.ensures ∙ c.in-Err.ensures.asked) at)

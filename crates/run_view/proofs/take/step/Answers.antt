@@ -12,7 +12,8 @@ use Rattle.run_view.proofs.take.step.Goals as goal
 pub returns-in_default-clause-stops : goal.returns-in_default-clause-stops
 returns-in_default-clause-stops g c head before told going =
     stops_behind c.args.viewer.now head before _ told _ _ _ _ going
-    (inl (record { rose = c.in_default.ensures.cause.failed; behind = _; lines = inl refl; part = c.in_default.ensures.unread }))
+    (inl
+    (record { behind = _; lines = inl refl; unread = record { rose = c.in_default.ensures.cause.failed; part = c.in_default.ensures.unread } }))
 
 pub returns-then-from-turn-clause-stops : goal.returns-then-from-turn-clause-stops
 returns-then-from-turn-clause-stops g c head before told going =

@@ -42,13 +42,13 @@ returns-clause-stops g c =
 pub returns-in_err-reader-clause-stops : goal.returns-in_err-reader-clause-stops
 returns-in_err-reader-clause-stops g c =
     let p = err_from_is_err_and c.from_residual.result c.from_residual.ensures.1 in
-    rw (p.1, p.2) (inl (record { why = by_input _ _ _ _ _ (λ rose. inl rose) c.in_err-reader.ensures.stops; text = Appends-nil _ }))
+    rw (p.1, p.2) (inl (record { why = by_input _ _ _ _ c.in_err-reader.ensures.stops; text = Appends-nil _ }))
 
 pub returns-in_err-frames-clause-stops : goal.returns-in_err-frames-clause-stops
 returns-in_err-frames-clause-stops g c =
     let p = err_from_is_err_and c.from_residual-in_err-frames.result c.from_residual-in_err-frames.ensures.1 in rw (p.1, p.2)
     (inl (record {
-      why = by_output_head c.in_ok-reader.reader _ _ _ _ _ _ _ (λ rose. inr (inl rose)) (ap (λ (h : Head). h.link) c.head.ensures)
+      why = by_output_head c.in_ok-reader.reader _ _ _ _ _ _ (ap (λ (h : Head). h.link) c.head.ensures)
           c.in_ok-reader.ensures.opened c.in_err-frames.ensures.stops;
       text = Appends-nil _;
     }))
@@ -57,7 +57,7 @@ pub returns-in_err-form-clause-stops : goal.returns-in_err-form-clause-stops
 returns-in_err-form-clause-stops g c =
     let p = err_from_is_err_and c.from_residual-in_err-form.result c.from_residual-in_err-form.ensures.1 in rw (p.1, p.2)
     (inl (record {
-      why = by_report_ahead _ c.in_ok-lines.lines _ _ _ _ (c.in_ok-lines.ensures _) (λ rose. inr (inr rose))
+      why = by_report_ahead _ c.in_ok-lines.lines _ _ _ (c.in_ok-lines.ensures _)
           (heads_are c.in_ok-reader.reader c.in_ok-frames.frames _ _ _ _ c.in_ok-reader.ensures.opened c.in_ok-frames.ensures.opened
           (c.in_ok-frames.ensures.same ∙ ap (λ (h : Head). h.link) c.head.ensures)) c.in_err-form.ensures.stops;
       text = Appends-nil _;
