@@ -4,8 +4,10 @@ use edge_io::{
     BufferedSink, BufferedSource, Failed, FileSink, FileSource, LineOut, MAX_FRAME, MemSink,
     MemSource, NoMemory, Outbox, Sink, Source, read_full,
 };
+use std::alloc::{AllocError, Global};
 use std::fs::File;
 use std::io::{ErrorKind, Read, Write};
+use std::path::Path;
 use std::test::Fail;
 use std::{env, fs, io, process};
 
@@ -19,36 +21,69 @@ fn put_in_pieces<K: Sink>(sink: &mut K, octets: &[u8], size: usize) -> Result<()
     sink.flush()
 }
 
+// Returns 76,500 octets, more than the 65,536 of a buffer.
+fn many_octets(alloc: Global) -> Result<Vec<u8>, AllocError> {
+    let mut octets = Vec::new(alloc);
+    for octet in 0..u8::MAX {
+        octets.extend_from_slice(&[octet; 300])?;
+    }
+    Ok(octets)
+}
+
+// Writes the octets to a new file, and returns whether no call fails.
+fn is_file_written(rt: &HostRuntime, path: Path<'_>, octets: &[u8]) -> io::Result<bool> {
+    let mut sink = FileSink::over(Some(File::create(rt, path)?));
+    Ok(put_in_pieces(&mut sink, octets, 116).is_ok())
+}
+
+// Reads the file, and returns whether it has as many octets and no more.
+fn is_file_read(rt: &HostRuntime, path: Path<'_>, octets: &mut [u8]) -> io::Result<bool> {
+    let mut source = FileSource::over(Some(File::open(rt, path)?));
+    Ok(read_full(&mut source, octets).is_ok() && source.fetch(&mut [0]) == Ok(0))
+}
+
+fn is_file_kept(rt: &HostRuntime, path: Path<'_>, given: &[u8]) -> Result<bool, Fail> {
+    let mut read = vec![in rt.alloc(); 0u8; given.len()]?;
+    let written = is_file_written(rt, path, given)?;
+    let whole = is_file_read(rt, path, &mut read)?;
+    fs::remove_file(rt, path)?;
+    Ok(written && whole && read.as_slice() == given)
+}
+
+fn is_kept(rt: &HostRuntime) -> Result<bool, Fail> {
+    let given = many_octets(rt.alloc())?;
+    let name = format!(in rt.alloc(); "edge_io_{}", process::id(rt.process()))?;
+    let path = env::temp_dir(rt)?.join(rt.alloc(), name.as_str())?;
+    is_file_kept(rt, path.as_path(), &given)
+}
+
 #[test]
 fn a_file_has_what_its_sink_was_given(rt: HostRuntime) -> Result<(), Fail> {
-    let name = format!(in rt.alloc(); "edge_io_{}", process::id(rt.process()))?;
-    let path = env::temp_dir(&rt)?.join(rt.alloc(), name.as_str())?;
-    // More octets than the buffer has.
-    let mut given = Vec::new(rt.alloc());
-    for octet in 0..u8::MAX {
-        given.extend_from_slice(&[octet; 300])?;
-    }
-    let mut sink = FileSink::over(Some(File::create(&rt, path.as_path())?));
-    assert!(rt; put_in_pieces(&mut sink, &given, 116).is_ok());
-
-    let mut source = FileSource::over(Some(File::open(&rt, path.as_path())?));
-    let mut read = vec![in rt.alloc(); 0u8; given.len()]?;
-    assert!(rt; read_full(&mut source, &mut read).is_ok());
-    fs::remove_file(&rt, path.as_path())?;
-    assert!(rt; read.as_slice() == given.as_slice());
-    assert_eq!(rt; source.fetch(&mut [0]), Ok(0));
+    assert!(rt; is_kept(&rt)?);
     Ok(())
+}
+
+// Returns whether the sink takes a line and has no error, and whether it has the line.
+fn takes_line(out: &mut LineOut) -> (bool, bool, bool) {
+    let taken = put_in_pieces(out, b"a line\n", 4).is_ok();
+    (
+        taken,
+        out.last_error().is_none(),
+        out.last_written() == b"a line\n".as_slice(),
+    )
+}
+
+// Flushes a sink without a writer. Returns the result, and the number of calls that failed.
+fn flushes_none() -> (Result<(), Failed>, u64) {
+    let mut none = LineOut::over(None);
+    (none.flush(), none.faults())
 }
 
 #[test]
 fn standard_output_takes_lines(rt: HostRuntime) {
     let mut out = LineOut::over(Some(rt.stdout()));
-    assert!(rt; put_in_pieces(&mut out, b"a line\n", 4).is_ok());
-    assert!(rt; out.last_error().is_none());
-    assert_eq!(rt; out.last_written(), b"a line\n".as_slice());
-    let mut none = LineOut::over(None);
-    assert_eq!(rt; none.flush(), Err(Failed));
-    assert_eq!(rt; none.faults(), 1);
+    assert_eq!(rt; takes_line(&mut out), (true, true, true));
+    assert_eq!(rt; flushes_none(), (Err(Failed), 1));
 }
 
 // A reader and writer of which a signal interrupts every second call. The other calls read one octet, or write at most
@@ -87,18 +122,6 @@ impl Write for Interrupted {
     }
 }
 
-#[test]
-fn an_interrupted_call_is_repeated(rt: HostRuntime) {
-    let mut source = BufferedSource::over(Some(Interrupted { calls: 0, takes: 0 }));
-    assert_eq!(rt; source.fetch(&mut [0; 3]), Ok(1));
-    let mut sink = BufferedSink::over(Some(Interrupted { calls: 0, takes: 1 }));
-    assert!(rt; put_in_pieces(&mut sink, b"abc", 3).is_ok());
-    // A write that takes no octet is an error.
-    let mut full = BufferedSink::over(Some(Interrupted { calls: 0, takes: 0 }));
-    assert!(rt; put_in_pieces(&mut full, b"abc", 3).is_err());
-    assert!(rt; is_kind(full.last_error(), ErrorKind::WriteZero));
-}
-
 fn is_kind(error: Option<io::Error>, kind: ErrorKind) -> bool {
     match error {
         Some(error) => error.kind() == kind,
@@ -106,35 +129,87 @@ fn is_kind(error: Option<io::Error>, kind: ErrorKind) -> bool {
     }
 }
 
+// Returns the result of a read of three octets whose first call is interrupted.
+fn interrupted_read() -> Result<usize, Failed> {
+    let mut source = BufferedSource::over(Some(Interrupted { calls: 0, takes: 0 }));
+    source.fetch(&mut [0; 3])
+}
+
+// Writes three octets, at most `takes` a call. Returns whether that succeeds, and whether the error is `WriteZero`.
+fn interrupted_write(takes: usize) -> (bool, bool) {
+    let mut sink = BufferedSink::over(Some(Interrupted { calls: 0, takes }));
+    let taken = put_in_pieces(&mut sink, b"abc", 3).is_ok();
+    (taken, is_kind(sink.last_error(), ErrorKind::WriteZero))
+}
+
+#[test]
+fn an_interrupted_call_is_repeated(rt: HostRuntime) {
+    assert_eq!(rt; interrupted_read(), Ok(1));
+    assert_eq!(rt; interrupted_write(1), (true, false));
+    // A write that takes no octet is an error.
+    assert_eq!(rt; interrupted_write(0), (false, true));
+}
+
+// Reads from a missing file. Returns whether there was no error before, whether the read fails, and whether the error
+// is `NotFound`.
+fn fails_to_read(source: &mut FileSource) -> (bool, bool, bool) {
+    let before = source.last_error().is_none();
+    let failed = source.fetch(&mut [0]) == Err(Failed);
+    (
+        before,
+        failed,
+        is_kind(source.last_error(), ErrorKind::NotFound),
+    )
+}
+
+fn fails_to_write(sink: &mut FileSink) -> (bool, bool) {
+    let failed = sink.put(b"a") == Err(Failed);
+    (failed, is_kind(sink.last_error(), ErrorKind::NotFound))
+}
+
 #[test]
 fn a_call_fails_by_the_error_of_its_file(rt: HostRuntime) {
     let mut source = FileSource::opened(File::open(&rt, "no/such/file"));
-    assert!(rt; source.last_error().is_none());
-    assert_eq!(rt; source.fetch(&mut [0]), Err(Failed));
-    assert!(rt; is_kind(source.last_error(), ErrorKind::NotFound));
+    assert_eq!(rt; fails_to_read(&mut source), (true, true, true));
     let mut sink = FileSink::opened(File::create(&rt, "no/such/file"));
-    assert_eq!(rt; sink.put(b"a"), Err(Failed));
-    assert!(rt; is_kind(sink.last_error(), ErrorKind::NotFound));
+    assert_eq!(rt; fails_to_write(&mut sink), (true, true));
+}
+
+// The results of a read that fails and of the next one, and the octets that this one reads.
+type Reads = (Result<usize, Failed>, Result<usize, Failed>, [u8; 6]);
+
+fn failing_reads(alloc: Global) -> Result<Reads, AllocError> {
+    let octets = Vec::from_slice(alloc, b"abcdefghij")?;
+    let mut source = MemSource::new(octets, 4, vec![in alloc; 1]?);
+    let mut buf = [0; 6];
+    let first = source.fetch(&mut buf);
+    Ok((first, read_full(&mut source, &mut buf), buf))
+}
+
+// Returns the results of puts of which the second fails, and of one past the sink's room, and whether the sink then
+// holds `abcde`.
+fn failing_puts(sink: &mut MemSink) -> (Result<(), Failed>, Result<(), Failed>, bool) {
+    let first = put_in_pieces(sink, b"abcdefgh", 3);
+    let last = sink.put(b"def");
+    (first, last, sink.held() == b"abcde".as_slice())
+}
+
+fn failing_sink(alloc: Global) -> Result<(Result<(), Failed>, Result<(), Failed>, bool), Fail> {
+    let mut sink = MemSink::new(alloc, 5, vec![in alloc; 2]?)?;
+    Ok(failing_puts(&mut sink))
 }
 
 #[test]
 fn memory_fails_where_it_is_told_to(rt: HostRuntime) -> Result<(), Fail> {
-    let bytes = b"abcdefghij".to_vec(rt.alloc())?;
-    let mut source = MemSource::new(bytes, 4, [1].to_vec(rt.alloc())?);
-    let mut buf = [0; 6];
-    assert_eq!(rt; source.fetch(&mut buf), Err(Failed));
-    assert_eq!(rt; read_full(&mut source, &mut buf), Ok(6));
-    assert_eq!(rt; buf.as_slice(), b"abcdef".as_slice());
-
-    let fails = [2].to_vec(rt.alloc())?;
-    let mut sink = MemSink::new(rt.alloc(), 5, fails).ok().ok_or("no memory")?;
-    assert_eq!(rt; put_in_pieces(&mut sink, b"abcdefgh", 3), Err(Failed));
-    assert_eq!(rt; sink.put(b"def"), Err(Failed));
-    assert_eq!(rt; sink.held(), b"abcde".as_slice());
+    assert_eq!(rt;
+        failing_reads(rt.alloc())?,
+        (Err(Failed), Ok(6), *b"abcdef")
+    );
+    assert_eq!(rt; failing_sink(rt.alloc())?, (Err(Failed), Err(Failed), true));
     Ok(())
 }
 
-// Two frames in an outbox, the first of the greatest length, and another one after both were removed.
+// Returns whether an outbox holds two frames, the first of the greatest length, and another one after it was cleared.
 fn holds_frames(outbox: &mut Outbox) -> bool
     requires { outbox.old ≡ [] }
 {
