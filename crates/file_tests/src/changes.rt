@@ -1,8 +1,8 @@
 //! Frames compared by hand.
 use edge_io::NoMemory;
 use frame_view::{
-    Change, Flow, IcmpMarks, Made, PayloadChange, Ports, Said, TcpMarks, add_changes, add_made,
-    flow_of, length_of,
+    Change, Flow, IcmpMarks, Made, PayloadChange, Ports, Replaced, Said, TcpMarks, add_changes,
+    add_made, flow_of, length_of,
 };
 use hex::FromHexError;
 use std::alloc::Global;
@@ -32,6 +32,16 @@ const WHOLE: &str = "45000040000100004006467cc63364070a000001\
 const PROBE: &str =
     "450000280001000040064694c63364070a0000019c400050000003e70000138950102000a7980000";
 
+// The octets `xd` with the sequence number 1002, and the checksums of `abcd`.
+const XD: &str =
+    "4500002a0001000040064690c63364070a0000019c400050000003ea0000138950182000e2c400007864";
+
+// The UDP message with a total length of 20 octets, its IPv4 header alone.
+const HEADER_ALONE: &str = "450000140001000040114693c63364070a0000019c400035000ac6bf6869";
+
+// The first 19 octets of the UDP message.
+const CUT: &str = "4500001e0001000040114693c63364070a0000";
+
 fn fails(_: FromHexError) -> NoMemory {
     NoMemory
 }
@@ -40,365 +50,416 @@ fn octets(alloc: Global, digits: &str) -> Result<Vec<u8>, NoMemory> {
     hex::decode(alloc, digits).map_err(fails)
 }
 
-// Sets an octet, if there is one at this offset.
-fn put_octet(octets: &mut Vec<u8>, at: usize, octet: u8) {
-    if at < octets.len() {
-        octets[at] = octet;
-    }
+const SYN_FLOW: Flow = Flow {
+    src: Addr(0xc633_6407),
+    dst: Addr(0x0a00_0001),
+    protocol: 6,
+    identification: 1,
+    offset: 0,
+    more: false,
+    ports: Some(Ports {
+        src: 40000,
+        dst: 80,
+    }),
+    tcp: Some(TcpMarks {
+        flags: Flags(2),
+        seq: 999,
+        ack: 0,
+        window: 8192,
+    }),
+    icmp: None,
+    length: 0,
+};
+
+const WHOLE_FLOW: Flow = Flow {
+    tcp: Some(TcpMarks {
+        flags: Flags(24),
+        seq: 1000,
+        ack: 5001,
+        window: 8192,
+    }),
+    length: 24,
+    ..SYN_FLOW
+};
+
+const PROBE_FLOW: Flow = Flow {
+    tcp: Some(TcpMarks {
+        flags: Flags(16),
+        seq: 999,
+        ack: 5001,
+        window: 8192,
+    }),
+    ..SYN_FLOW
+};
+
+const HI_FLOW: Flow = Flow {
+    protocol: 17,
+    ports: Some(Ports {
+        src: 40000,
+        dst: 53,
+    }),
+    tcp: None,
+    length: 2,
+    ..SYN_FLOW
+};
+
+const ECHO_FLOW: Flow = Flow {
+    protocol: 1,
+    ports: None,
+    tcp: None,
+    icmp: Some(IcmpMarks { kind: 8, code: 0 }),
+    length: 12,
+    ..SYN_FLOW
+};
+
+// The link of a frame, its octets in hexadecimal, its expected header fields, and the length of its payload.
+type Headers = (Link, &'static str, Option<Flow>, u64);
+
+fn has_headers(alloc: Global, row: &Headers) -> Result<bool, NoMemory> {
+    let (link, digits, flow, length) = *row;
+    let frame = octets(alloc, digits)?;
+    Ok(flow_of(link, &frame) == flow && length_of(link, &frame) == length)
 }
 
-// Returns the first octets, or all of them if there are fewer.
-fn front(octets: &[u8], len: usize) -> &[u8] {
-    if len <= octets.len() {
-        &octets[..len]
-    } else {
-        octets
+// Returns the index of the first frame whose header fields or length differ from its row.
+fn first_other_headers(alloc: Global, rows: &[Headers]) -> Result<Option<usize>, NoMemory> {
+    for (index, row) in rows.iter().enumerate() {
+        if !has_headers(alloc, row)? {
+            return Ok(Some(index));
+        }
     }
+    Ok(None)
 }
 
-// Writes a value: a number, octets in hexadecimal digits, or `-` where there is none.
-fn put_value(alloc: Global, text: &mut String, value: &Said) -> Result<(), NoMemory> {
-    match value {
-        Said::Nothing => text.push_str("-")?,
-        Said::Number(number) => text.push_str(format!(in alloc; "{number}")?.as_str())?,
-        Said::Octets(octets) => text.push_str(hex::encode(alloc, octets.as_slice())?.as_str())?,
-    }
+const READABLE: &[Headers] = &[
+    (Link::Raw, SYN, Some(SYN_FLOW), 0),
+    (Link::Raw, HI, Some(HI_FLOW), 2),
+];
+
+#[test]
+fn headers_say_what_they_say(rt: HostRuntime) -> Result<(), NoMemory> {
+    assert_eq!(rt; first_other_headers(rt.alloc(), READABLE)?, None);
     Ok(())
 }
 
-// Writes octets in hexadecimal digits behind a word.
-fn put_octets(alloc: Global, text: &mut String, word: &str, octets: &[u8]) -> Result<(), NoMemory> {
-    text.push_str(word)?;
-    text.push_str(hex::encode(alloc, octets)?.as_str())?;
+// An ARP frame, a frame of 13 octets, and an IPv4 header that is cut off.
+const UNREADABLE: &[Headers] = &[
+    (Link::Ethernet, "02000000000202000000000108060001", None, 2),
+    (Link::Ethernet, "02000000000202000000000108", None, 0),
+    (Link::Raw, CUT, None, 19),
+];
+
+#[test]
+fn what_has_no_header_has_no_flow(rt: HostRuntime) -> Result<(), NoMemory> {
+    assert_eq!(rt; first_other_headers(rt.alloc(), UNREADABLE)?, None);
     Ok(())
 }
 
-fn put_payload(alloc: Global, text: &mut String, payload: &PayloadChange) -> Result<(), NoMemory> {
-    put_octets(alloc, text, "payload front ", payload.front.as_slice())?;
-    put_octets(alloc, text, " end ", payload.end.as_slice())?;
-    put_octets(alloc, text, " longer ", payload.longer.as_slice())?;
-    for run in payload.replaced.as_slice() {
-        let at = run.at;
-        text.push_str(format!(in alloc; " at {at}")?.as_str())?;
-        put_octets(alloc, text, " ", run.from.as_slice())?;
-        put_octets(alloc, text, " > ", run.to.as_slice())?;
-    }
+// An echo request (RFC 792), and the same with a total length that leaves seven octets of the message.
+#[rattlefmt::skip]
+const ECHOES: &[Headers] = &[
+    (Link::Raw, "450000200001000040014695c63364070a00000108007a6300070001706f6e67", Some(ECHO_FLOW), 12),
+    (Link::Raw, "4500001b0001000040014695c63364070a00000108007a6300070001706f6e67",
+        Some(Flow { icmp: None, length: 7, ..ECHO_FLOW }), 7),
+];
+
+#[test]
+fn type_and_code_are_read(rt: HostRuntime) -> Result<(), NoMemory> {
+    assert_eq!(rt; first_other_headers(rt.alloc(), ECHOES)?, None);
     Ok(())
 }
 
-// Writes the number of a protocol, and those of a segment where there is one.
-fn put_flow(alloc: Global, text: &mut String, flow: Flow) -> Result<(), NoMemory> {
-    let protocol = flow.protocol;
-    text.push_str(format!(in alloc; " protocol {protocol}")?.as_str())?;
-    if let Some(marks) = flow.tcp {
-        let flags = marks.flags.0;
-        let seq = marks.seq;
-        let ack = marks.ack;
-        text.push_str(format!(in alloc; " flags {flags} seq {seq} ack {ack}")?.as_str())?;
+// The expected value of a field.
+#[derive(Clone, Copy)]
+enum Value {
+    Absent,
+    Number(u32),
+    Octets(&'static [u8]),
+}
+
+use Value::{Absent, Number, Octets};
+
+// An expected change of frame 1.
+enum Wanted {
+    // The name of the field, its value in the record, and its value in the frame.
+    InField(&'static str, Value, Value),
+    // Octets cut off at the front, cut off at the end, added at the end, and replaced.
+    InPayload(&'static [u8], &'static [u8], &'static [u8], &'static [Run]),
+}
+
+// The offset of replaced octets, those of the record, and those of the frame.
+type Run = (usize, &'static [u8], &'static [u8]);
+
+use Wanted::{InField, InPayload};
+
+fn says(said: &Said, value: Value) -> bool {
+    match (said, value) {
+        (Said::Nothing, Absent) => true,
+        (Said::Number(found), Number(number)) => *found == number,
+        (Said::Octets(found), Octets(octets)) => found.as_slice() == octets,
+        _ => false,
     }
+}
+
+fn are_replaced(replaced: &[Replaced], runs: &[Run]) -> bool {
+    for (found, run) in replaced.iter().zip(runs.iter()) {
+        let (at, from, to) = *run;
+        if found.at != at || found.from.as_slice() != from || found.to.as_slice() != to {
+            return false;
+        }
+    }
+    replaced.len() == runs.len()
+}
+
+fn is_cut(payload: &PayloadChange, front: &[u8], end: &[u8], longer: &[u8]) -> bool {
+    payload.front.as_slice() == front
+        && payload.end.as_slice() == end
+        && payload.longer.as_slice() == longer
+}
+
+fn is_wanted(change: &Change, wanted: &Wanted) -> bool {
+    match (change, wanted) {
+        (
+            Change::InField {
+                frame,
+                field,
+                from,
+                to,
+            },
+            InField(name, before, after),
+        ) => *frame == 1 && field.name() == *name && says(from, *before) && says(to, *after),
+        (Change::InPayload { frame, payload }, InPayload(front, end, longer, runs)) => *frame == 1
+            && is_cut(payload, front, end, longer)
+            && are_replaced(&payload.replaced, runs),
+        _ => false,
+    }
+}
+
+fn are_wanted(changes: &[Change], wanted: &[Wanted]) -> bool {
+    for (change, wanted) in changes.iter().zip(wanted.iter()) {
+        if !is_wanted(change, wanted) {
+            return false;
+        }
+    }
+    changes.len() == wanted.len()
+}
+
+// A record and the frame that was written for it, in hexadecimal, and the expected changes.
+type Pair = (&'static str, &'static str, &'static [Wanted]);
+
+fn differs_by(alloc: Global, pair: &Pair, changes: &mut Vec<Change>) -> Result<bool, NoMemory> {
+    let (record, frame, wanted) = *pair;
+    let record = octets(alloc, record)?;
+    let frame = octets(alloc, frame)?;
+    add_changes(alloc, Link::Raw, &record, &frame, 1, changes)?;
+    Ok(are_wanted(changes.as_slice(), wanted))
+}
+
+fn differs(alloc: Global, pair: &Pair) -> Result<bool, NoMemory> {
+    let mut changes = Vec::new(alloc);
+    differs_by(alloc, pair, &mut changes)
+}
+
+// Returns the index of the first pair whose changes differ from its row.
+fn first_other_pair(alloc: Global, pairs: &[Pair]) -> Result<Option<usize>, NoMemory> {
+    for (index, pair) in pairs.iter().enumerate() {
+        if !differs(alloc, pair)? {
+            return Ok(Some(index));
+        }
+    }
+    Ok(None)
+}
+
+// The UDP message with the TTL 30, and with 31.
+#[rattlefmt::skip]
+const RAISED: &[Pair] = &[(
+    "4500001e000100001e116893c63364070a0000019c400035000ac6bf6869",
+    "4500001e000100001f116793c63364070a0000019c400035000ac6bf6869",
+    &[InField("ttl", Number(30), Number(31)), InField("header_checksum", Number(0x6893), Number(0x6793))],
+)];
+
+#[test]
+fn a_raised_ttl_changes_the_sum(rt: HostRuntime) -> Result<(), NoMemory> {
+    assert_eq!(rt; first_other_pair(rt.alloc(), RAISED)?, None);
     Ok(())
 }
 
-fn made_word(kind: Made) -> &'static str {
-    match kind {
-        Made::Probe => "probe",
-        Made::Datagram => "datagram",
-    }
+#[rattlefmt::skip]
+const PAYLOADS: &[Pair] = &[
+    (ABCD, ABCD, &[]),
+    (ABXD, ABCD, &[
+        InField("checksum", Number(0xedc4), Number(0xe2c4)),
+        InPayload(b"", b"", b"", &[(2, b"X", b"c")]),
+    ]),
+    (ABCD, PROBE, &[
+        InField("total_length", Number(44), Number(40)),
+        InField("header_checksum", Number(0x4690), Number(0x4694)),
+        InField("sequence", Number(1000), Number(999)),
+        InField("flags", Number(24), Number(16)),
+        InField("checksum", Number(0xe2c4), Number(0xa798)),
+        InPayload(b"", b"abcd", b"", &[]),
+    ]),
+    (PROBE, ABCD, &[
+        InField("total_length", Number(40), Number(44)),
+        InField("header_checksum", Number(0x4694), Number(0x4690)),
+        InField("sequence", Number(999), Number(1000)),
+        InField("flags", Number(16), Number(24)),
+        InField("checksum", Number(0xa798), Number(0xe2c4)),
+        InPayload(b"", b"", b"abcd", &[]),
+    ]),
+];
+
+#[test]
+fn payloads_differ_by_runs_and_cuts(rt: HostRuntime) -> Result<(), NoMemory> {
+    assert_eq!(rt; first_other_pair(rt.alloc(), PAYLOADS)?, None);
+    Ok(())
 }
 
-fn put_change(alloc: Global, text: &mut String, change: &Change) -> Result<(), NoMemory> {
+// The record `abcd` at 1000, and a frame with `xd` at 1002: two octets are cut off, and one is replaced.
+#[rattlefmt::skip]
+const FRONTS: &[Pair] = &[(ABCD, XD, &[
+    InField("total_length", Number(44), Number(42)),
+    InField("sequence", Number(1000), Number(1002)),
+    InPayload(b"ab", b"", b"", &[(2, b"c", b"x")]),
+])];
+
+#[test]
+fn octets_are_cut_off_at_the_front(rt: HostRuntime) -> Result<(), NoMemory> {
+    assert_eq!(rt; first_other_pair(rt.alloc(), FRONTS)?, None);
+    Ok(())
+}
+
+// The second frame has no header that can be read, so its octets are payload.
+#[rattlefmt::skip]
+const HEADERLESS: &[Pair] = &[(HI, "6500001e0001000040114693c63364070a0000019c400035000ac6bf6869", &[
+    InField("version", Number(4), Absent),
+    InField("header_length", Number(20), Absent),
+    InField("type_of_service", Number(0), Absent),
+    InField("total_length", Number(30), Absent),
+    InField("identification", Number(1), Absent),
+    InField("reserved_bit", Number(0), Absent),
+    InField("dont_fragment", Number(0), Absent),
+    InField("more_fragments", Number(0), Absent),
+    InField("fragment_offset", Number(0), Absent),
+    InField("ttl", Number(64), Absent),
+    InField("protocol", Number(17), Absent),
+    InField("header_checksum", Number(0x4693), Absent),
+    InField("source", Number(0xc633_6407), Absent),
+    InField("destination", Number(0x0a00_0001), Absent),
+    InField("source_port", Number(40000), Absent),
+    InField("destination_port", Number(53), Absent),
+    InField("checksum", Number(0xc6bf), Absent),
+    InField("udp_length", Number(10), Absent),
+    InPayload(b"", b"", &[
+        0x00, 0x1e, 0x00, 0x01, 0x00, 0x00, 0x40, 0x11, 0x46, 0x93, 0xc6, 0x33, 0x64, 0x07, 0x0a, 0x00, 0x00, 0x01, 0x9c, 0x40, 0x00,
+        0x35, 0x00, 0x0a, 0xc6, 0xbf, 0x68, 0x69,
+    ], &[(0, b"hi", &[0x65, 0x00])]),
+])];
+
+#[test]
+fn fields_that_a_frame_has_not_are_absent(rt: HostRuntime) -> Result<(), NoMemory> {
+    assert_eq!(rt; first_other_pair(rt.alloc(), HEADERLESS)?, None);
+    Ok(())
+}
+
+// An octet behind the total length, and a fragment whose ports are not its own.
+#[rattlefmt::skip]
+const TRAILERS: &[Pair] = &[(
+    "4500001e0001000040114693c63364070a0000019c400035000ac6bf6869ab",
+    HI,
+    &[InField("trailer", Octets(&[0xab]), Absent)],
+)];
+
+#[rattlefmt::skip]
+const FRAGMENTS: &[Headers] = &[(
+    Link::Raw,
+    "4500001e0001000140114693c63364070a0000019c400035000ac6bf6869ab",
+    Some(Flow { offset: 8, ports: None, length: 10, ..HI_FLOW }),
+    10,
+)];
+
+#[test]
+fn trailers_and_fragments_are_read(rt: HostRuntime) -> Result<(), NoMemory> {
+    assert_eq!(rt; first_other_pair(rt.alloc(), TRAILERS)?, None);
+    assert_eq!(rt; first_other_headers(rt.alloc(), FRAGMENTS)?, None);
+    Ok(())
+}
+
+// A total length below 20 octets or past the last octet is ignored: the message goes to the end of
+// the frame. One of 20 octets ends the packet behind its header.
+#[rattlefmt::skip]
+const TOTALS: &[Headers] = &[
+    (Link::Raw, "450000000001000040114693c63364070a0000019c400035000ac6bf6869", Some(HI_FLOW), 2),
+    (Link::Raw, "450000130001000040114693c63364070a0000019c400035000ac6bf6869", Some(HI_FLOW), 2),
+    (Link::Raw, "4500001f0001000040114693c63364070a0000019c400035000ac6bf6869", Some(HI_FLOW), 2),
+    (Link::Raw, HEADER_ALONE, Some(Flow { ports: None, length: 0, ..HI_FLOW }), 0),
+];
+
+#[rattlefmt::skip]
+const ENDED: &[Pair] = &[(HI, HEADER_ALONE, &[
+    InField("total_length", Number(30), Number(20)),
+    InField("source_port", Number(40000), Absent),
+    InField("destination_port", Number(53), Absent),
+    InField("checksum", Number(0xc6bf), Absent),
+    InField("udp_length", Number(10), Absent),
+    InPayload(b"", b"hi", b"", &[]),
+    InField("trailer", Absent, Octets(&[0x9c, 0x40, 0x00, 0x35, 0x00, 0x0a, 0xc6, 0xbf, 0x68, 0x69])),
+])];
+
+#[test]
+fn a_total_length_that_cannot_be_ends_nothing(rt: HostRuntime) -> Result<(), NoMemory> {
+    assert_eq!(rt; first_other_headers(rt.alloc(), TOTALS)?, None);
+    assert_eq!(rt; first_other_pair(rt.alloc(), ENDED)?, None);
+    Ok(())
+}
+
+// A frame that norm made: its octets in hexadecimal, its kind, its header fields, and the length of its payload.
+type Own = (&'static str, Made, Option<Flow>, u64);
+
+// A datagram, a probe behind it, a UDP datagram, and an IPv4 header that is cut off.
+const OWN: &[Own] = &[
+    (WHOLE, Made::Datagram, Some(WHOLE_FLOW), 24),
+    (PROBE, Made::Probe, Some(PROBE_FLOW), 0),
+    (HI, Made::Datagram, Some(HI_FLOW), 2),
+    (CUT, Made::Datagram, None, 19),
+];
+
+fn is_own(change: &Change, number: u32, own: &Own) -> bool {
     match change {
-        Change::InField {
-            frame,
-            field,
-            from,
-            to,
-        } => {
-            let name = field.name();
-            text.push_str(format!(in alloc; "{frame} {name} ")?.as_str())?;
-            put_value(alloc, text, from)?;
-            text.push_str(" > ")?;
-            put_value(alloc, text, to)?;
-        }
-        Change::InPayload { frame, payload } => {
-            text.push_str(format!(in alloc; "{frame} ")?.as_str())?;
-            put_payload(alloc, text, payload)?;
-        }
         Change::Made {
             frame,
             kind,
             flow,
             length,
-        } => {
-            let word = made_word(*kind);
-            text.push_str(format!(in alloc; "{frame} {word} length {length}")?.as_str())?;
-            if let Some(flow) = flow {
-                put_flow(alloc, text, *flow)?;
-            }
+        } => (*frame, *kind, *flow, *length) == (number, own.1, own.2, own.3),
+        _ => false,
+    }
+}
+
+// Adds the frames, numbered from 1. Returns whether each call appends its own change alone.
+fn are_made(alloc: Global, rows: &[Own], changes: &mut Vec<Change>) -> Result<bool, NoMemory> {
+    let mut number = 0u32;
+    for own in rows {
+        number = number.saturating_add(1);
+        let frame = octets(alloc, own.0)?;
+        add_made(Link::Raw, &frame, number, own.1, changes)?;
+        if !changes
+            .last()
+            .is_some_and(|change| is_own(change, number, own))
+        {
+            return Ok(false);
         }
     }
-    text.push_str("\n")?;
-    Ok(())
+    Ok(changes.len() == rows.len())
 }
 
-// Writes each change.
-fn text_of(alloc: Global, changes: &[Change]) -> Result<String, NoMemory> {
-    let mut text = String::new(alloc);
-    for change in changes {
-        put_change(alloc, &mut text, change)?;
-    }
-    Ok(text)
-}
-
-fn changes_text(
-    alloc: Global,
-    link: Link,
-    record: &[u8],
-    frame: &[u8],
-) -> Result<String, NoMemory> {
+fn makes_own(alloc: Global) -> Result<bool, NoMemory> {
     let mut changes = Vec::new(alloc);
-    add_changes(alloc, link, record, frame, 1, &mut changes)?;
-    text_of(alloc, changes.as_slice())
+    are_made(alloc, OWN, &mut changes)
 }
 
-fn raw_changes(alloc: Global, record: &str, frame: &str) -> Result<String, NoMemory> {
-    let record = octets(alloc, record)?;
-    let frame = octets(alloc, frame)?;
-    changes_text(alloc, Link::Raw, record.as_slice(), frame.as_slice())
-}
-
-#[test]
-fn headers_say_what_they_say(rt: HostRuntime) -> Result<(), NoMemory> {
-    let syn = octets(rt.alloc(), SYN)?;
-    let hi = octets(rt.alloc(), HI)?;
-    let src = Addr(0xc633_6407);
-    let dst = Addr(0x0a00_0001);
-    let tcp = Some(TcpMarks {
-        flags: Flags(2),
-        seq: 999,
-        ack: 0,
-        window: 8192,
-    });
-    assert_eq!(rt;
-        flow_of(Link::Raw, syn.as_slice()),
-        Some(Flow {
-            src,
-            dst,
-            protocol: 6,
-            identification: 1,
-            offset: 0,
-            more: false,
-            ports: Some(Ports {
-                src: 40000,
-                dst: 80
-            }),
-            tcp,
-            icmp: None,
-            length: 0
-        })
-    );
-    assert_eq!(rt;
-        flow_of(Link::Raw, hi.as_slice()),
-        Some(Flow {
-            src,
-            dst,
-            protocol: 17,
-            identification: 1,
-            offset: 0,
-            more: false,
-            ports: Some(Ports {
-                src: 40000,
-                dst: 53
-            }),
-            tcp: None,
-            icmp: None,
-            length: 2
-        })
-    );
-    assert_eq!(rt; length_of(Link::Raw, hi.as_slice()), 2);
-    Ok(())
-}
-
-// An ARP frame, a frame of 13 octets, and an IPv4 header that is cut off.
-#[test]
-fn what_has_no_header_has_no_flow(rt: HostRuntime) -> Result<(), NoMemory> {
-    let arp = octets(rt.alloc(), "02000000000202000000000108060001")?;
-    let hi = octets(rt.alloc(), HI)?;
-    assert_eq!(rt; flow_of(Link::Ethernet, arp.as_slice()), None);
-    assert_eq!(rt; length_of(Link::Ethernet, arp.as_slice()), 2);
-    assert_eq!(rt; flow_of(Link::Ethernet, front(arp.as_slice(), 13)), None);
-    assert_eq!(rt; length_of(Link::Ethernet, front(arp.as_slice(), 13)), 0);
-    assert_eq!(rt; flow_of(Link::Raw, front(hi.as_slice(), 19)), None);
-    assert_eq!(rt; length_of(Link::Raw, front(hi.as_slice(), 19)), 19);
-    Ok(())
-}
-
-#[test]
-fn a_raised_ttl_changes_the_sum(rt: HostRuntime) -> Result<(), NoMemory> {
-    let mut low = octets(rt.alloc(), HI)?;
-    let mut raised = octets(rt.alloc(), HI)?;
-    put_octet(&mut low, 8, 30);
-    put_octet(&mut low, 10, 0x68);
-    put_octet(&mut low, 11, 0x93);
-    put_octet(&mut raised, 8, 31);
-    put_octet(&mut raised, 10, 0x67);
-    put_octet(&mut raised, 11, 0x93);
-    let text = changes_text(rt.alloc(), Link::Raw, low.as_slice(), raised.as_slice())?;
-    assert_eq!(rt;
-        text.as_str(),
-        "1 ttl 30 > 31\n1 header_checksum 26771 > 26515\n"
-    );
-    Ok(())
-}
-
-#[test]
-fn payloads_differ_by_runs_and_cuts(rt: HostRuntime) -> Result<(), NoMemory> {
-    assert_eq!(rt; raw_changes(rt.alloc(), ABCD, ABCD)?.as_str(), "");
-    assert_eq!(rt;
-        raw_changes(rt.alloc(), ABXD, ABCD)?.as_str(),
-        "1 checksum 60868 > 58052\n1 payload front  end  longer  at 2 58 > 63\n"
-    );
-    assert_eq!(rt;
-        raw_changes(rt.alloc(), ABCD, PROBE)?.as_str(),
-        "1 total_length 44 > 40\n1 header_checksum 18064 > 18068\n1 sequence 1000 > 999\n1 flags 24 > 16\n\
-         1 checksum 58052 > 42904\n1 payload front  end 61626364 longer \n"
-    );
-    assert_eq!(rt;
-        raw_changes(rt.alloc(), PROBE, ABCD)?.as_str(),
-        "1 total_length 40 > 44\n1 header_checksum 18068 > 18064\n1 sequence 999 > 1000\n1 flags 16 > 24\n\
-         1 checksum 42904 > 58052\n1 payload front  end  longer 61626364\n"
-    );
-    Ok(())
-}
-
-// The record `abcd` at 1000, and a frame with `xd` at 1002: two octets are cut off, and one is replaced.
-#[test]
-fn octets_are_cut_off_at_the_front(rt: HostRuntime) -> Result<(), NoMemory> {
-    let record = octets(rt.alloc(), ABCD)?;
-    let mut frame = octets(rt.alloc(), ABCD)?;
-    frame.truncate(42);
-    put_octet(&mut frame, 3, 42);
-    put_octet(&mut frame, 27, 0xea);
-    put_octet(&mut frame, 40, 0x78);
-    put_octet(&mut frame, 41, 0x64);
-    let text = changes_text(rt.alloc(), Link::Raw, record.as_slice(), frame.as_slice())?;
-    assert_eq!(rt;
-        text.as_str(),
-        "1 total_length 44 > 42\n1 sequence 1000 > 1002\n1 payload front 6162 end  longer  at 2 63 > 78\n"
-    );
-    Ok(())
-}
-
-// The second packet has no header that can be read, so its octets are payload.
-#[test]
-fn fields_that_a_frame_has_not_are_absent(rt: HostRuntime) -> Result<(), NoMemory> {
-    let record = octets(rt.alloc(), HI)?;
-    let mut frame = octets(rt.alloc(), HI)?;
-    put_octet(&mut frame, 0, 0x65);
-    let text = changes_text(rt.alloc(), Link::Raw, record.as_slice(), frame.as_slice())?;
-    assert_eq!(rt;
-        text.as_str(),
-        "1 version 4 > -\n1 header_length 20 > -\n1 type_of_service 0 > -\n1 total_length 30 > -\n1 identification 1 > -\n\
-         1 reserved_bit 0 > -\n1 dont_fragment 0 > -\n1 more_fragments 0 > -\n1 fragment_offset 0 > -\n1 ttl 64 > -\n1 protocol 17 > -\n\
-         1 header_checksum 18067 > -\n1 source 3325256711 > -\n1 destination 167772161 > -\n1 source_port 40000 > -\n1 destination_port 53 > -\n\
-         1 checksum 50879 > -\n1 udp_length 10 > -\n\
-         1 payload front  end  longer 001e0001000040114693c63364070a0000019c400035000ac6bf6869 at 0 6869 > 6500\n"
-    );
-    Ok(())
-}
-
-// An echo request (RFC 792) and the same cut to seven octets.
-#[test]
-fn type_and_code_are_read(rt: HostRuntime) -> Result<(), NoMemory> {
-    let digits = "450000200001000040014695c63364070a00000108007a6300070001706f6e67";
-    let echo = octets(rt.alloc(), digits)?;
-    let flow = flow_of(Link::Raw, echo.as_slice());
-    assert_eq!(rt;
-        flow.and_then(|flow| flow.icmp),
-        Some(IcmpMarks { kind: 8, code: 0 })
-    );
-    assert_eq!(rt; length_of(Link::Raw, echo.as_slice()), 12);
-    let mut short = octets(rt.alloc(), digits)?;
-    put_octet(&mut short, 3, 27);
-    let flow = flow_of(Link::Raw, short.as_slice());
-    assert_eq!(rt; flow.and_then(|flow| flow.icmp), None);
-    Ok(())
-}
-
-// Octets behind the total length, and a fragment whose ports are not its own.
-#[test]
-fn trailers_and_fragments_are_read(rt: HostRuntime) -> Result<(), NoMemory> {
-    let mut record = octets(rt.alloc(), HI)?;
-    record.push(0xab)?;
-    let text = changes_text(
-        rt.alloc(),
-        Link::Raw,
-        record.as_slice(),
-        octets(rt.alloc(), HI)?.as_slice(),
-    )?;
-    assert_eq!(rt; text.as_str(), "1 trailer ab > -\n");
-    put_octet(&mut record, 7, 1);
-    let flow = flow_of(Link::Raw, record.as_slice());
-    assert_eq!(rt;
-        flow,
-        Some(Flow {
-            src: Addr(0xc633_6407),
-            dst: Addr(0x0a00_0001),
-            protocol: 17,
-            identification: 1,
-            offset: 8,
-            more: false,
-            ports: None,
-            tcp: None,
-            icmp: None,
-            length: 10
-        })
-    );
-    Ok(())
-}
-
-// A total length inside of the header, or beyond the last octet, ends nothing: the message goes to
-// the end of the packet.
-#[test]
-fn a_total_length_that_cannot_be_ends_nothing(rt: HostRuntime) -> Result<(), NoMemory> {
-    for total in [0, 19, 31] {
-        let mut record = octets(rt.alloc(), HI)?;
-        put_octet(&mut record, 3, total);
-        assert_eq!(rt; length_of(Link::Raw, record.as_slice()), 2);
-    }
-    let mut record = octets(rt.alloc(), HI)?;
-    put_octet(&mut record, 3, 20);
-    assert_eq!(rt; length_of(Link::Raw, record.as_slice()), 0);
-    assert_eq!(rt;
-        changes_text(
-            rt.alloc(),
-            Link::Raw,
-            octets(rt.alloc(), HI)?.as_slice(),
-            record.as_slice(),
-        )?
-        .as_str(),
-        "1 total_length 30 > 20\n1 source_port 40000 > -\n1 destination_port 53 > -\n1 checksum 50879 > -\n1 udp_length 10 > -\n\
-         1 payload front  end 6869 longer \n1 trailer - > 9c400035000ac6bf6869\n"
-    );
-    Ok(())
-}
-
-// A datagram, a probe behind it, a UDP datagram, and an IPv4 header that is cut off.
 #[test]
 fn frames_that_norm_made_have_their_headers(rt: HostRuntime) -> Result<(), NoMemory> {
-    let whole = octets(rt.alloc(), WHOLE)?;
-    let probe = octets(rt.alloc(), PROBE)?;
-    let hi = octets(rt.alloc(), HI)?;
-    let cut = front(hi.as_slice(), 19);
-    let mut changes = Vec::new(rt.alloc());
-    add_made(Link::Raw, whole.as_slice(), 1, Made::Datagram, &mut changes)?;
-    add_made(Link::Raw, probe.as_slice(), 2, Made::Probe, &mut changes)?;
-    add_made(Link::Raw, hi.as_slice(), 3, Made::Datagram, &mut changes)?;
-    add_made(Link::Raw, cut, 4, Made::Datagram, &mut changes)?;
-    assert_eq!(rt;
-        text_of(rt.alloc(), changes.as_slice())?.as_str(),
-        "1 datagram length 24 protocol 6 flags 24 seq 1000 ack 5001\n2 probe length 0 protocol 6 flags 16 seq 999 ack 5001\n\
-         3 datagram length 2 protocol 17\n4 datagram length 19\n"
-    );
+    assert!(rt; makes_own(rt.alloc())?);
     Ok(())
 }

@@ -6,6 +6,8 @@ mod audits;
 #[cfg(test)]
 mod changes;
 #[cfg(test)]
+mod counts;
+#[cfg(test)]
 mod lines;
 #[cfg(test)]
 mod notes;

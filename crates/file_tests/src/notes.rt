@@ -1,6 +1,6 @@
 //! Notes on captures that are bad.
-use crate::views::{FILES, SYN, capture, viewed};
-use std::alloc::Global;
+use crate::views::Written::Texts;
+use crate::views::{PLAIN, Run, SYN, View, first_other};
 use std::test::Fail;
 
 /// A segment of 10.0.0.1:80 to 198.51.100.7:40000 that acknowledges the number 1104.
@@ -20,46 +20,61 @@ const TUNNEL: [u8; 20] = [
     0x45, 0, 0, 20, 0, 1, 0, 0, 64, 47, 0, 0, 198, 51, 100, 7, 10, 0, 0, 1,
 ];
 
-const LOST: &str = "note lost in 100 out 0: IN lacks packets: capture again with tcpdump -B 65536, \
+const LOST_LINE: &str =
+    "note lost in 100 out 0: IN lacks packets: capture again with tcpdump -B 65536, \
     and see how many packets were dropped by kernel\n";
 
-/// The status and the text of a view that asks for notes, of a run that wrote each record as it was.
-fn noted(alloc: Global, records: &[&[u8]], report: &str) -> Result<(u8, Vec<u8>), Fail> {
-    let [input, output, report_name] = FILES;
-    let words = ["--notes", input, output, report_name];
-    let written = capture(alloc, records)?;
-    let read = capture(alloc, records)?;
-    viewed(alloc, &words, read, written, report, [0; 4])
-}
+/// A view with `--notes` of a run whose output equals its input.
+const LOST: View = View {
+    run: Run {
+        input: (101, &[&SYN, &ACK, &BEHIND]),
+        output: (101, &[&SYN, &ACK, &BEHIND]),
+        report: "norm 2\n1 in pass 1 @1 +1\n2 out pass 1 @1\n3 in pass 1 @1\nend 3 3\n",
+    },
+    words: "--notes in out report",
+    status: 10,
+    written: Texts(&[LOST_LINE]),
+    ..PLAIN
+};
 
 #[test]
 fn octets_that_were_acknowledged_and_passed_are_lost(rt: HostRuntime) -> Result<(), Fail> {
-    let report = "norm 2\n1 in pass 1 @1 +1\n2 out pass 1 @1\n3 in pass 1 @1\nend 3 3\n";
-    let (status, text) = noted(rt.alloc(), &[&SYN, &ACK, &BEHIND], report)?;
-    assert_eq!(rt; status, 10);
-    assert_eq!(rt; text.as_slice(), LOST.as_bytes());
+    assert_eq!(rt; first_other(rt.alloc(), &[LOST])?, None);
     Ok(())
 }
+
+const NAMED: View = View {
+    run: Run {
+        input: (101, &[&SYN, &ACK]),
+        output: (101, &[&SYN, &ACK]),
+        report: "norm 2\n1 in pass 1 @1 +1\n2 out pass 1 @1\nend 2 2\n",
+    },
+    words: "--notes in out report",
+    written: Texts(&[]),
+    ..PLAIN
+};
 
 #[test]
 fn octets_that_only_one_side_names_are_not(rt: HostRuntime) -> Result<(), Fail> {
-    let report = "norm 2\n1 in pass 1 @1 +1\n2 out pass 1 @1\nend 2 2\n";
-    let (status, text) = noted(rt.alloc(), &[&SYN, &ACK], report)?;
-    assert_eq!(rt; status, 0);
-    assert_eq!(rt; text.as_slice(), b"".as_slice());
+    assert_eq!(rt; first_other(rt.alloc(), &[NAMED])?, None);
     Ok(())
 }
 
+const TUNNELS: View = View {
+    run: Run {
+        input: (101, &[&TUNNEL]),
+        output: (101, &[]),
+        report: "norm 2\n1 in drop 0 P_PROTO\nend 1 0\n",
+    },
+    words: "--notes in out report",
+    written: Texts(&[
+        "note tunnels records 1: tunnels and SCTP are dropped: capture inside of a tunnel\n",
+    ]),
+    ..PLAIN
+};
+
 #[test]
 fn tunnels_are_named_and_no_warning(rt: HostRuntime) -> Result<(), Fail> {
-    let input = capture(rt.alloc(), &[&TUNNEL])?;
-    let output = capture(rt.alloc(), &[])?;
-    let words = ["--notes", "in", "out", "report"];
-    let report = "norm 2\n1 in drop 0 P_PROTO\nend 1 0\n";
-    let (status, text) = viewed(rt.alloc(), &words, input, output, report, [0; 4])?;
-    assert_eq!(rt; status, 0);
-    let line =
-        b"note tunnels records 1: tunnels and SCTP are dropped: capture inside of a tunnel\n";
-    assert_eq!(rt; text.as_slice(), line.as_slice());
+    assert_eq!(rt; first_other(rt.alloc(), &[TUNNELS])?, None);
     Ok(())
 }
