@@ -182,6 +182,8 @@ PROVER = {
         "an edit cannot be read": REFUSED + "; echo 'rt: must-fail a/two.edit: BAD EDIT: it changes nothing'; exit 1",
         "a proof file alone refuses an edit":
             REFUSED + "; echo 'rt: must-fail a/two.edit: refused, as it must be (only because a proof file names what it took)'",
+        "an edit renames what a proof file answers":
+            REFUSED + "; echo 'rt: must-fail a/two.edit: refused, as it must be: ./proofs/b/Answers.antt:1:5: error: `goal.returns`: module `c` has none'",
         "an edit is proved": REFUSED + "; echo 'rt: must-fail a/two.edit: NOT REFUSED: the crate is still proved with this edit'; exit 1",
     }),
     "planted": ("14", UNPROVED, {

@@ -16,7 +16,8 @@ def standard(name):
 
 
 def add_program(words, name="norm"):
-    """Adds the argument that names the program."""
+    """Adds the argument that names the program. A name cannot be cut short: `--norm` would be taken for `--normview`."""
+    words.allow_abbrev = False
     words.add_argument("--" + name, metavar="PROGRAM", default=standard(name), help="the built program; crates/%s/out/%s if it is left out" % (name, name))
 
 
