@@ -22,6 +22,11 @@ abbrev pub asked_in : Input → ℕ
 asked_in (Classic head reader) = reader.asked
 asked_in (Sections reader) = reader.asked
 
+-- the offset of the next record or block
+abbrev pub place_in : Input → ℕ
+place_in (Classic head reader) = reader.place
+place_in (Sections reader) = reader.place
+
 -- whether the next record may be read
 abbrev pub is_open_in : Input → Bool
 is_open_in (Classic head reader) = reader.is_open

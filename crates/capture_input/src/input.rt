@@ -4,7 +4,7 @@ ghost use Rattle.std.specs.declared.option.Option.{Option};
 ghost use Rattle.edge_io.specs.Faults.{Rose};
 ghost use Rattle.capture_input.specs.Faults.{has_read_fault, only_fault};
 ghost use Rattle.capture_input.specs.Inputs.{Walk};
-ghost use Rattle.capture_input.specs.Reading.{head_in, asked_in, is_open_in, Behind};
+ghost use Rattle.capture_input.specs.Reading.{head_in, asked_in, place_in, is_open_in, Behind};
 ghost use Rattle.capture_input.specs.Reads.{Opens, Reads};
 ghost use Rattle.wire_base.specs.declared.limits.TheConstants.{MAX_CAPTURED};
 
@@ -72,6 +72,16 @@ impl Input {
         match self {
             Input::Classic(_, reader) => reader.offset(),
             Input::Sections(reader) => reader.offset(),
+        }
+    }
+
+    /// Returns the offset of the next record or block, in octets from the start of the capture.
+    pub fn place(&self) -> u64
+        ensures { result ≡ place_in self.now }
+    {
+        match self {
+            Input::Classic(_, reader) => reader.place(),
+            Input::Sections(reader) => reader.place(),
         }
     }
 

@@ -23,6 +23,11 @@ pub trait Source {
     /// Returns the number of failed calls; the count saturates at the last value of its type.
     fn faults(&self) -> u64
         ensures { result ≡ fault_count self.now };
+
+    /// Returns whether the next call may wait for the outside.
+    fn may_wait(&self) -> bool {
+        false
+    }
 }
 
 /// A sink for octets.

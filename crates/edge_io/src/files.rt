@@ -113,6 +113,14 @@ impl<R: Read + Drop> Source for BufferedSource<R> {
     fn faults(&self) -> u64 {
         self.faults
     }
+
+    /// Returns whether the read buffer is empty; false if there is no reader.
+    fn may_wait(&self) -> bool {
+        match &self.ahead {
+            Ok(ahead) => ahead.is_empty(),
+            Err(_) => false,
+        }
+    }
 }
 
 /// A writer outside the program, with a write buffer. Its octets are not known.

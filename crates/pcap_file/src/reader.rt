@@ -84,6 +84,13 @@ impl Reader {
         self.asked
     }
 
+    /// Returns the offset of the next record, in octets from the start of the file.
+    pub fn place(&self) -> u64
+        ensures { result ≡ self.now.place }
+    {
+        self.place
+    }
+
     /// Reads the next record, with its octets in the buffer. Returns None at the end of the file.
     pub fn next<'a, S: Source>(
         &mut self,

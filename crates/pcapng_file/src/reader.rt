@@ -114,6 +114,13 @@ impl NgReader {
         self.asked
     }
 
+    /// Returns the offset of the next block, in octets from the start of the file.
+    pub fn place(&self) -> u64
+        ensures { result ≡ self.now.place }
+    {
+        self.place
+    }
+
     // Reads the next block before the first interface; its octets `first` were read before.
     fn look_ahead<S: Source>(&mut self, first: &[u8], source: &mut S) -> Result<(), OpenFault>
         requires few { length first.now ≤ 12 }

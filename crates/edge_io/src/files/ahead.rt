@@ -1,5 +1,5 @@
 //! Reads through a buffer.
-ghost use Rattle.std.specs.Prelude.{◌≡◌, ◌≤◌, OnOk, OnErr, IsSome};
+ghost use Rattle.std.specs.Prelude.{◌≡◌, ◌≤◌, ◌↔◌, IsTrue, OnOk, OnErr, IsSome};
 ghost use Rattle.std.specs.Io.{ReadsAtMost};
 ghost use Rattle.std.specs.Io.KnownBytes.{Keeps, IsAtEnd, ReadConsumes};
 ghost use Rattle.edge_io.specs.Octets.{Fetches};
@@ -47,6 +47,13 @@ impl<R: Read> ReadAhead<R> {
         ensures { result ≡ self.now.last_error }
     {
         self.last_error
+    }
+
+    /// Returns whether the read buffer is empty.
+    pub(super) fn is_empty(&self) -> bool
+        ensures { IsTrue result ↔ self.now.start ≡ self.now.filled }
+    {
+        self.start == self.filled
     }
 
     /// Moves octets from the read buffer to the front of `buf`. Returns their number.
