@@ -10,7 +10,7 @@ use Rattle.wire_base.specs.Tcp as tcp
 use Rattle.wire_base.specs.Plain.{Plain}
 use Rattle.wire_base.specs.Segments.{fields_of, segment_of, Segment}
 use Rattle.receiver_model.specs.Offsets.{IsPlace}
-use Rattle.receiver_model.specs.Agreement.{ArePlaces, FinAt, HasSynBefore, OctetAt}
+use Rattle.receiver_model.specs.Agreement.{ArePlaces, FinAt, HasSynBefore, OctetAt, TellOneStream}
 use Rattle.receiver_model.proofs.Places.{Each, each_at, each_long, each_append}
 use Rattle.receiver_model.proofs.Members.{all_at}
 use Rattle.receiver_model.proofs.Streams.{segment_is}
@@ -20,7 +20,7 @@ use Rattle.emit_mtu.specs.Laws.{IsToBeCut, piece_of}
 use Rattle.emit_mtu.specs.declared.long.LongKind.{LongKind}
 use Rattle.emit_mtu.specs.declared.long.LongKind.TheVariants.{Fits, Cut, Drop}
 use Rattle.emit_mtu.specs.Long.{long_kind}
-use Rattle.emit_mtu.specs.Streams.{CutTellsOneStream, frames_for, frames_of, packets_for, places_for, places_of}
+use Rattle.emit_mtu.specs.Streams.{CutIsOfStream, CutTellsOneStream, frames_for, frames_of, packets_for, places_for, places_of}
 use Rattle.emit_mtu.proofs.Segments.{past, cutting}
 use Rattle.emit_mtu.proofs.Headers.{fields_of-packet_of, header-front, length-piece_of, is_own, packet_of}
 use Rattle.emit_mtu.proofs.Flags.{flags_are_kept, is_unmarked}
@@ -250,19 +250,37 @@ plain_stood hops mtu places packets place packet plain came =
     let original = all_at (Plain hops) packets came.origin.number came.packet plain came.origin.stands in
     ⊎_elim (λ same. subst (Plain hops) (sym same.0) original) (λ part. plain_part hops mtu came.packet came.place packet place part original) came.how
 
-pub cut_tells_one_stream : CutTellsOneStream
-cut_tells_one_stream hops base mtu places packets least most octets h =
+-- each packet that is written is one of those that describe a stream, or a part of one
+each_came : (hops base mtu : ℕ) (places : List ℤ) (packets : List (List ℕ)) → 576 ≤ mtu → mtu < 2 ^ 16 → All AreOctets packets → TellOneStream hops base places packets
+    → Each (Came mtu (Stands places packets)) (places_for mtu places packets) (packets_for mtu packets)
+each_came hops base mtu places packets least most octets h =
     let Q = Stands places packets in
     let stand : Each Q places packets = each_by Q places packets h.placed.one_each (λ k z p placed stands. record { number = k; stands = stands; placed = placed }) in
-    let own_places = places_for mtu places packets in
-    let own_packets = packets_for mtu packets in
-    let each : Each (Came mtu Q) own_places own_packets = each_cut mtu Q places packets (λ place packet origin cut. record {
+    each_cut mtu Q places packets (λ place packet origin cut. record {
       sent = inr (refl, whole-plain hops packet (all_at (Plain hops) packets origin.number packet h.plain origin.stands));
       octets = all_at AreOctets packets origin.number packet octets origin.stands;
       cut = cut;
       least = least;
       most = most;
-    }) stand in
+    }) stand
+
+pub cut_is_of_stream : CutIsOfStream
+cut_is_of_stream hops base mtu places packets first end least most octets tells h =
+    let each = each_came hops base mtu places packets least most octets tells in
+    let own_places = places_for mtu places packets in
+    let own_packets = packets_for mtu packets in
+    record {
+      octets = λ offset octet o. h.octets offset octet (octets_stood mtu places packets own_places own_packets offset octet each o);
+      fins = λ offset f. h.fins offset (fins_stood mtu places packets own_places own_packets offset each f);
+      none_past = h.none_past;
+    }
+
+pub cut_tells_one_stream : CutTellsOneStream
+cut_tells_one_stream hops base mtu places packets least most octets h =
+    let Q = Stands places packets in
+    let each = each_came hops base mtu places packets least most octets h in
+    let own_places = places_for mtu places packets in
+    let own_packets = packets_for mtu packets in
     record {
       plain = each_all (Came mtu Q) (Plain hops) own_places own_packets each (λ z p came. plain_stood hops mtu places packets z p h.plain came);
       syns = each_all (Came mtu Q) (HasSynBefore base) own_places own_packets each (λ z p came. syn_stood base mtu places packets z p h.syns came);

@@ -1,5 +1,5 @@
 -- The frames that are written instead of a frame, and the offsets of their octets in a stream (this project's profile).
-use Rattle.std.specs.Prelude.{◌≡◌, ℕ, ◌*◌, ◌^◌, ◌≤◌, ◌<◌, List, [], ◌∷◌, ◌++◌, map, ℤ, pos, ◌+ℤ◌, All, false, None}
+use Rattle.std.specs.Prelude.{◌≡◌, ℕ, ◌*◌, ◌^◌, ◌≤◌, ◌<◌, List, [], ◌∷◌, ◌++◌, map, ℤ, pos, ◌+ℤ◌, All, false, None, Option}
 use Rattle.std.specs.List.{flat_map, range_with_len}
 use Rattle.wire_base.specs.declared.address.Link.{Link}
 use Rattle.wire_base.specs.declared.address.Link.TheVariants.{Raw}
@@ -11,6 +11,7 @@ use Rattle.tcp_codec.specs.declared.header.SumRule.TheVariants.{Skip}
 use Rattle.tcp_codec.specs.Header.{fault_of}
 use Rattle.receiver_model.specs.Agreement.{TellOneStream}
 use Rattle.receiver_model.specs.Monitors.{StayNearAcks}
+use Rattle.receiver_model.specs.Parts.{AreOfStream}
 use Rattle.emit_mtu.specs.declared.long.LongKind.{LongKind}
 use Rattle.emit_mtu.specs.declared.long.LongKind.TheVariants.{Fits, Cut, Drop}
 use Rattle.emit_mtu.specs.Frames.{AreOctets, IsSent, IsWhole, link_size, parts_of}
@@ -71,6 +72,12 @@ abbrev pub CutTellsOneStream : Type 0
 CutTellsOneStream =
     (hops base mtu : ℕ) (places : List ℤ) (packets : List (List ℕ)) → 576 ≤ mtu → mtu < 2 ^ 16 → All AreOctets packets → TellOneStream hops base places packets
     → TellOneStream hops base (places_for mtu places packets) (packets_for mtu packets)
+
+-- and those of a given stream still are
+abbrev pub CutIsOfStream : Type 0
+CutIsOfStream =
+    (hops base mtu : ℕ) (places : List ℤ) (packets : List (List ℕ)) (first : ℤ → Option ℕ) (end : Option ℤ) → 576 ≤ mtu → mtu < 2 ^ 16 → All AreOctets packets
+    → TellOneStream hops base places packets → AreOfStream first end places packets → AreOfStream first end (places_for mtu places packets) (packets_for mtu packets)
 
 -- the acks of the packets that are written instead of these, in order
 abbrev pub acks_for : (mtu : ℕ) → (acks : List ℕ) → (packets : List (List ℕ)) → List ℕ

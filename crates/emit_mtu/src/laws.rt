@@ -1,6 +1,6 @@
 //! Laws over the definitions alone.
 ghost use Rattle.emit_mtu.specs.Laws.{AreFew, ArePlain, AreReadAsPieces, AreSent, CarryThePayload, FlagsAreKept, NoneIsLong};
-ghost use Rattle.emit_mtu.specs.Streams.{CutStaysNearAcks, CutTellsOneStream, NothingLongGoesOut, PacketsGoOutAlike, PlainHeadersAreWhole, PlainIsSent};
+ghost use Rattle.emit_mtu.specs.Streams.{CutIsOfStream, CutStaysNearAcks, CutTellsOneStream, NothingLongGoesOut, PacketsGoOutAlike, PlainHeadersAreWhole, PlainIsSent};
 
 /// States that the packets of the segments of a frame have at most MTU octets, that there are at
 /// most 132 segments, and that no frame that is written is long.
@@ -48,4 +48,10 @@ pub fn plain_packets_go_out()
 pub fn cut_packets_tell_one_stream()
     ensures stream { CutTellsOneStream }
     ensures acks { CutStaysNearAcks }
+{}
+
+/// States that the octets and FINs of packets that describe one stream are the stream's also after
+/// the long packets are cut or dropped.
+pub fn cut_packets_are_of_the_stream()
+    ensures { CutIsOfStream }
 {}

@@ -5,8 +5,8 @@
 //! dropped. `Cutter` returns exactly the segments of the definition, one a call. Laws on a frame
 //! that is cut: none of its segments is long, they are at most 132, and they carry the payload in
 //! order and once; each is read as its part, with its own sequence number and flags, and is plain
-//! if the frame is; packets that describe one stream still do so after the cuts, and stay near what
-//! was acknowledged if they did. Nothing long is written.
+//! if the frame is; packets that describe one stream still do so after the cuts, are still of it,
+//! and stay near what was acknowledged if they did. Nothing long is written.
 #![tactic(auto)]
 
 pub mod cutter;

@@ -1,3 +1,4 @@
 pub mod Streams
 pub mod Acks
 pub mod Monitors
+pub mod TwoEras

@@ -1,4 +1,4 @@
--- Emitted segments describe one stream, so all receivers agree on it and a monitor misses nothing.
+-- Emitted segments describe one stream, so all receivers agree on it and read parts of it, and a monitor misses nothing.
 use Rattle.std.proofs.Common.{◌≡◌, ◌⊎◌, ℕ, ◌+◌, ◌%◌, ◌^◌, List, [], ◌∷◌, ◌++◌, length, Some, None, true, false, refl, ap, sym, ◌∙◌, arith, ⊎_elim, Option, Bool, ◌&&◌, not, map, subst, append-nil, ℤ, pos, ◌+ℤ◌, IsTrue, slice_get, All, if◌then◌else◌, IfSome, ◌<ℤ◌}
 use Rattle.std.proofs.lemmas.Option.{slice_get_past}
 use Rattle.std.proofs.lemmas.List.Elements.{All-nil, All-cons, All-head, All-tail, All-append}
@@ -11,12 +11,13 @@ use Rattle.era_state.specs.Emitted.{WrittenRemains, InwardsAcknowledgeNothing, E
 use Rattle.receiver_model.specs.Offsets.{IsPlace}
 use Rattle.receiver_model.specs.Agreement.{OctetAt, FinAt, HasSynBefore, TellOneStream, MembersAgree}
 use Rattle.receiver_model.specs.Monitors.{MonitorsMissNothing}
+use Rattle.receiver_model.specs.Parts.{MembersReadParts}
 use Rattle.receiver_model.proofs.Places.{Each, each_append, each_map, each_at, each_long}
 use Rattle.wire_base.specs.Plain.{Plain}
 use Rattle.era_state.proofs.SameNumbers.{pushed}
 use Rattle.era_agreement.specs.Sent.{Sent, is_era, inward_packets, aside_packets, written_as, segments_in, written_in, placed_at, place_of, inward_places, inward_acks}
 use Rattle.era_agreement.specs.Agreement.{IsSilentPacket, EraIsSound}
-use Rattle.era_agreement.specs.Laws.{EmittedTellsOneStream, EmittedIsSilent, EmittedAgrees, EmittedStaysNearAcks, EmittedMissesNothing}
+use Rattle.era_agreement.specs.Laws.{EmittedTellsOneStream, EmittedIsSilent, EmittedAgrees, EmittedStaysNearAcks, EmittedMissesNothing, EmittedIsOfOneStream, EmittedReadsOneStream}
 
 -- What is known of an inward segment and its place, whatever is written later.
 
@@ -177,13 +178,13 @@ all_syns base ws (y ∷ zs) (q ∷ ps) h =
     (all_syns base ws zs ps h.1)
 
 -- an octet is the first at its offset
-octet_first : (base : ℕ) (ws : List Written) (zs : List ℤ) (ps : List (List ℕ)) (o : ℤ) (x : ℕ) → Each (Told base ws) zs ps → OctetAt zs ps o x → first base ws o ≡ Some x
+pub octet_first : (base : ℕ) (ws : List Written) (zs : List ℤ) (ps : List (List ℕ)) (o : ℤ) (x : ℕ) → Each (Told base ws) zs ps → OctetAt zs ps o x → first base ws o ≡ Some x
 octet_first base ws zs ps o x h c =
     let told : IsTold base ws c.place c.segment = each_at (Told base ws) zs ps c.number c.place c.frame h c.placed c.stands c.segment c.says in
     ap (first base ws) c.there ∙ told.octets c.index x c.has
 
 -- a FIN is the end
-fin_end : (base : ℕ) (ws : List Written) (zs : List ℤ) (ps : List (List ℕ)) (o : ℤ) → Each (Told base ws) zs ps → FinAt zs ps o → end_of base ws ≡ Some o
+pub fin_end : (base : ℕ) (ws : List Written) (zs : List ℤ) (ps : List (List ℕ)) (o : ℤ) → Each (Told base ws) zs ps → FinAt zs ps o → end_of base ws ≡ Some o
 fin_end base ws zs ps o h c =
     let told : IsTold base ws c.place c.segment = each_at (Told base ws) zs ps c.number c.place c.frame h c.placed c.stands c.segment c.says in
     told.fin c.has ∙ ap (λ z. Some z) (sym c.there)
@@ -307,6 +308,18 @@ emitted_agrees members tells silent hops sent h era = by (base_of (written_in er
     by : (o : Option ℕ) → base_of (written_in era sent) ≡ o → EraIsSound hops o (λ base. inward_places era base sent) (inward_packets era sent)
     by None is = silent hops era sent (h era) is
     by (Some base) is = members hops base (inward_places era base sent) (inward_packets era sent) (tells hops era base sent (h era) is).stream
+
+pub is_of_one_stream : EmittedTellsOneStream → EmittedOctetsArePlaces → EmittedIsOfOneStream
+is_of_one_stream tells placed hops era base sent h based =
+    let told = tells hops era base sent h based in
+    let places = placed base (written_in era sent) based h.emitted in
+    record { octets = told.octets; fins = told.fins; none_past = λ offset octet last e f. places.below_end offset last octet e f }
+
+pub reads_one_stream : MembersReadParts → EmittedTellsOneStream → EmittedIsOfOneStream → EmittedReadsOneStream
+reads_one_stream members tells of hops sent h era base based =
+    let ws = written_in era sent in
+    members hops base (inward_places era base sent) (inward_packets era sent) (first base ws) (end_of base ws)
+    (tells hops era base sent (h era) based).stream (of hops era base sent (h era) based)
 
 pub emitted_misses_nothing : MonitorsMissNothing → EmittedTellsOneStream → EmittedStaysNearAcks → EmittedMissesNothing
 emitted_misses_nothing monitors tells stays hops sent h era base based = record {

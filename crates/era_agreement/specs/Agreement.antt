@@ -6,7 +6,8 @@ use Rattle.receiver_model.specs.declared.member.Member.{Member}
 use Rattle.receiver_model.specs.Agreement.{EraAgrees, IsMember}
 use Rattle.receiver_model.specs.Delivery.{DeliversInTime}
 use Rattle.receiver_model.specs.Monitors as monitors
-use Rattle.era_state.specs.Quantities.{acked, base_of}
+use Rattle.receiver_model.specs.Parts.{EachReadsPart}
+use Rattle.era_state.specs.Quantities.{acked, base_of, end_of, first}
 use Rattle.era_agreement.specs.Sent.{Sent, inward_packets, written_in, inward_places}
 
 -- the packet has no octet, no SYN and no FIN for a stream
@@ -21,6 +22,13 @@ EraIsSound hops None places packets = All IsSilentPacket packets
 -- Each era is sound: with the base that its written segments fix, if any, and the offsets, counted from that base, of the packets sent inwards.
 abbrev pub Agree : (hops : ℕ) → List Sent → Type 0
 Agree hops sent = (era : ℕ) → EraIsSound hops (base_of (written_in era sent)) (λ base. inward_places era base sent) (inward_packets era sent)
+
+-- In each era whose base is fixed, every receiver, from whichever offset it starts, reads a part of one stream of the packets sent inwards: at each offset the
+-- octet that was written first there, up to the offset of the first FIN, if there is one.
+abbrev pub ReadsOneStream : (hops : ℕ) → List Sent → Type 0
+ReadsOneStream hops sent =
+    (era base : ℕ) → let ws = written_in era sent in
+    base_of ws ≡ Some base → EachReadsPart hops base (inward_places era base sent) (inward_packets era sent) (first base ws) (end_of base ws)
 
 -- In each era whose base is fixed, a monitor misses nothing of the packets sent inwards. In an era without a base there is nothing to miss: each is silent.
 abbrev pub MissesNothing : (hops : ℕ) → List Sent → Type 0

@@ -5,8 +5,9 @@ use Rattle.era_state.specs.Quantities.{acked, base_of, first, end_of}
 use Rattle.era_state.specs.Emission.{AreEmitted}
 use Rattle.receiver_model.specs.Agreement.{OctetAt, FinAt, TellOneStream}
 use Rattle.receiver_model.specs.Monitors.{CoversEach, StayNearAcks}
+use Rattle.receiver_model.specs.Parts.{AreOfStream}
 use Rattle.era_agreement.specs.Sent.{Sent, inward_packets, aside_packets, written_in, inward_places, inward_acks}
-use Rattle.era_agreement.specs.Agreement.{IsSilentPacket, Agree, AcknowledgeWhatIsRead, MissesNothing, read_to}
+use Rattle.era_agreement.specs.Agreement.{IsSilentPacket, Agree, AcknowledgeWhatIsRead, MissesNothing, ReadsOneStream, read_to}
 
 -- all inward packets of an era are plain, all of its segments are emitted, and packets beside them have no octet, SYN or FIN
 pub record IsEmittedEra (hops era : ℕ) (sent : List Sent) : Type 0 where
@@ -33,6 +34,16 @@ EmittedIsSilent =
 -- if this holds of each era, all receivers agree
 abbrev pub EmittedAgrees : Type 0
 EmittedAgrees = (hops : ℕ) (sent : List Sent) → ((era : ℕ) → IsEmittedEra hops era sent) → Agree hops sent
+
+-- If a base is fixed, the inward packets are of this stream: their octets and FINs are those written first in the era, and no octet is at or past its end.
+abbrev pub EmittedIsOfOneStream : Type 0
+EmittedIsOfOneStream =
+    (hops era base : ℕ) (sent : List Sent) → IsEmittedEra hops era sent → let ws = written_in era sent in
+    base_of ws ≡ Some base → AreOfStream (first base ws) (end_of base ws) (inward_places era base sent) (inward_packets era sent)
+
+-- and every receiver reads a part of it
+abbrev pub EmittedReadsOneStream : Type 0
+EmittedReadsOneStream = (hops : ℕ) (sent : List Sent) → ((era : ℕ) → IsEmittedEra hops era sent) → ReadsOneStream hops sent
 
 -- The inward packets of an era whose base is fixed stay near what was acknowledged: Acked before the record of each.
 abbrev pub EmittedStaysNearAcks : Type 0

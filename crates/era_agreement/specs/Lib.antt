@@ -1,3 +1,4 @@
 pub mod Sent
 pub mod Agreement
 pub mod Laws
+pub mod TwoEras

@@ -1,11 +1,12 @@
 //! Laws of what was sent in eras.
-ghost use Rattle.era_agreement.specs.Laws.{AcknowledgmentsAreBehind, EmittedAgrees, EmittedIsSilent, EmittedMissesNothing, EmittedStaysNearAcks, EmittedTellsOneStream};
+ghost use Rattle.era_agreement.specs.Laws.{AcknowledgmentsAreBehind, EmittedAgrees, EmittedIsOfOneStream, EmittedIsSilent, EmittedMissesNothing, EmittedReadsOneStream, EmittedStaysNearAcks, EmittedTellsOneStream};
+ghost use Rattle.era_agreement.specs.TwoEras.{EmittedErasAreReadAsOne, EmittedIsNotReadAgain, EmittedIsReadToAcked};
 
 use era_state::laws::{
     acked_never_falls, emitted_is_near, emitted_is_told, emitted_joins, emitted_octets_are_places,
     inwards_acknowledge_nothing, offsets_are_read, written_remains,
 };
-use receiver_model::laws::{members_agree, monitors_miss_nothing};
+use receiver_model::laws::{members_agree, members_read_parts, monitors_miss_nothing};
 
 /// Proves that the inward packets of an era describe one stream, each read at the offset of its
 /// sequence number: the octets written first at their offsets, and the era's end. Premises: all
@@ -20,6 +21,7 @@ pub fn emitted_tells_one_stream()
     emitted_joins();
     emitted_is_told();
     emitted_octets_are_places();
+    offsets_are_read();
 }
 
 /// Proves, under the same premises, that the inward packets have no octet, SYN or FIN if no segment
@@ -38,6 +40,18 @@ pub fn emitted_agrees()
     members_agree();
     emitted_tells_one_stream();
     emitted_is_silent();
+}
+
+/// Proves that every receiver reads a part of one stream of an era, from whichever offset it starts,
+/// if the same premises hold of each era.
+pub fn emitted_reads_one_stream()
+    ensures packets { EmittedIsOfOneStream }
+    ensures receivers { EmittedReadsOneStream }
+{
+    members_read_parts();
+    emitted_tells_one_stream();
+    emitted_octets_are_places();
+    offsets_are_read();
 }
 
 /// Proves that the inward packets of an era stay near what was acknowledged before the record of
@@ -67,3 +81,23 @@ pub fn emitted_misses_nothing()
 pub fn acknowledgments_are_behind()
     ensures { AcknowledgmentsAreBehind }
 {}
+
+/// Proves of any two eras with a base, under the same premises: if all that was written inwards in
+/// the first is acknowledged, and the base of the second, read nearest to that, is not before it, no
+/// octet of the second is at an offset that a receiver has read in the first. If besides no FIN was
+/// written inwards in the first and no SYN in the second, the packets of both are read as those of
+/// one era. A receiver that has read up to what was acknowledged in the first, or past it, has read
+/// exactly up to there.
+pub fn eras_are_read_as_one()
+    ensures again { EmittedIsNotReadAgain }
+    ensures one { EmittedErasAreReadAsOne }
+    ensures acknowledged { EmittedIsReadToAcked }
+{
+    members_agree();
+    members_read_parts();
+    monitors_miss_nothing();
+    emitted_tells_one_stream();
+    emitted_reads_one_stream();
+    emitted_octets_are_places();
+    offsets_are_read();
+}

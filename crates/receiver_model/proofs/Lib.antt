@@ -4,3 +4,4 @@ pub mod Receivers
 pub mod Monitors
 pub mod Streams
 pub mod PlainPackets
+pub mod Parts

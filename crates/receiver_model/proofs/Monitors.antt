@@ -1,5 +1,5 @@
 -- Monitors: one that heard all frames in time, or takes them in order, has all that any member has.
-use Rattle.std.proofs.Common.{◌≡◌, ℕ, zero, suc, ◌+◌, ◌<◌, ◌≤◌, List, [], ◌∷◌, length, Some, None, Bool, true, refl, sym, ap, ◌∙◌, subst, arith, ◌⊎◌, ◌^◌, ◌++◌, false, inl, inr, append-nil, append_assoc, ℤ, pos, slice_index_or, slice_get, ◌<ℤ◌}
+use Rattle.std.proofs.Common.{◌≡◌, ℕ, zero, suc, ◌+◌, ◌<◌, ◌≤◌, List, [], ◌∷◌, length, Some, None, Bool, true, Contains, refl, sym, ap, ◌∙◌, subst, arith, ◌⊎◌, ◌^◌, ◌++◌, false, inl, inr, append-nil, append_assoc, ℤ, pos, slice_index_or, slice_get, ◌<ℤ◌}
 use Rattle.std.proofs.lemmas.Int.{ints}
 use Rattle.std.proofs.lemmas.Option.{slice_get_within}
 use Rattle.std.proofs.lemmas.Bool.{cases_lt}
@@ -7,6 +7,7 @@ use Rattle.wire_base.specs.Segments.{Segment, segment_of}
 use Rattle.receiver_model.specs.Delivery.{Receiver, Run, IsTimely, beginning, Hears}
 use Rattle.receiver_model.specs.Agreement.{Agree, IsPrefixOf, OctetAt, FinAt, TellOneStream}
 use Rattle.receiver_model.specs.Monitors.{KeepsEach, HasDeliveredAll, Covers, MissesNothingInTime, TakesInOrder, StayNearAcks, MissesNothingInOrder, HasOctetOrFin, IsNeverFarBehind, MonitorsAreInTime}
+use Rattle.receiver_model.specs.Parts.{InOrderIsInTime}
 use Rattle.receiver_model.specs.Streams.{places_from}
 use Rattle.receiver_model.proofs.Members.{IsStream, Sound, none_has_more, sound_agree, sound_beginning, is_stream, run_keeps, ComesInTime}
 use Rattle.receiver_model.proofs.Receivers.{Kept, kept_now, kept_on, goes_on, IsRest, rest_all, rest_first, rest_on, has_ack, Caught, caught_none, caught_sound, caught_next, ahead_of_ack, ahead_at_end, comes_in_time, IsAhead}
@@ -21,7 +22,7 @@ kept_through places frames distance base start number before after (n ∷ schedu
     (kept_on places frames base start number run.1.segment before run.0 run.1.step k)
 
 -- by induction on the schedule
-kept_in : (hops distance base start : ℕ) (places : List ℤ) (frames : List (List ℕ)) (before after : Receiver) (schedule : List ℕ) (number k : ℕ)
+pub kept_in : (hops distance base start : ℕ) (places : List ℤ) (frames : List (List ℕ)) (before after : Receiver) (schedule : List ℕ) (number k : ℕ)
     → distance ≤ hops → TellOneStream hops base places frames → (run : Run distance base start frames before schedule after)
     → IsTimely places distance base start frames before schedule after run → KeepsEach distance base start frames before schedule after run
     → k < length schedule → slice_index_or schedule k number ≡ number → Kept places frames start number after
@@ -243,10 +244,11 @@ ahead_with_any acks places frames next number ack frame stay w stands up = recor
         let less = up (subst HasOctetOrFin (sym (says c.number c.frame c.segment same c.stands c.says)) any) in
         (ahead_of_ack acks places frames next number ack stay w less).fin offset c same
 
--- a host hears the frames of a schedule, each in time
+-- a host hears the frames of a schedule, each in time, and keeps what is not yet read
 record RunsInTime (places : List ℤ) (distance base start : ℕ) (frames : List (List ℕ)) (before : Receiver) (schedule : List ℕ) (after : Receiver) : Type 0 where
   run : Run distance base start frames before schedule after
   timely : IsTimely places distance base start frames before schedule after run
+  keeps : KeepsEach distance base start frames before schedule after run
 
 module _ (hops distance base start : ℕ) (acks : List ℕ) (places : List ℤ) (frames : List (List ℕ)) (h : TellOneStream hops base places frames)
     (stay : StayNearAcks acks places frames) (low : start ≤ 2 ^ 31) (near : distance ≤ hops) where
@@ -255,7 +257,7 @@ module _ (hops distance base start : ℕ) (acks : List ℕ) (places : List ℤ) 
       → IsRest (List ℕ) frames k rest → k + length ws ≡ length acks → k + length rest ≡ length frames → Caught places frames start k before
       → (takes : TakesInOrder distance base start rest before after) → IsNeverFarBehind ws distance base start rest before after takes
       → RunsInTime places distance base start frames before (places_from k rest) after
-  timely ws [] k before after among_w among count_w count caught takes up = record { run = takes; timely = tt }
+  timely ws [] k before after among_w among count_w count caught takes up = record { run = takes; timely = tt; keeps = tt }
   timely [] (frame ∷ rest) k before after among_w among count_w count caught takes up =
       let same = stay.one_each in
       absurd (omega (arith, count_w, count, same))
@@ -263,7 +265,7 @@ module _ (hops distance base start : ℕ) (acks : List ℕ) (places : List ℤ) 
       let more =
       timely ws rest (k + 1) takes.0 after (rest_on ℕ acks k w ws among_w) (rest_on (List ℕ) frames k frame rest among) (omega (arith, count_w))
       (omega (arith, count)) next takes.2 up.1 in
-      record { run = (takes.0, heard, more.run); timely = (time, more.timely) }
+      record { run = (takes.0, heard, more.run); timely = (time, more.timely); keeps = (takes.1.keeps, more.keeps) }
     where
       ack : slice_get acks k ≡ Some w
       ack = rest_first ℕ acks k w ws among_w
@@ -288,3 +290,31 @@ are_in_time hops base acks places frames monitor start last h stay low near take
     timely hops monitor.distance base start acks places frames h stay low near acks frames 0 beginning last (rest_all ℕ acks)
     (rest_all (List ℕ) frames) (omega arith) (omega arith) (caught_none places frames start) takes up in
     (record { delivery = record { last = last; run = all.run; stream_is = refl; ended_is = refl }; timely = all.timely }, refl)
+
+-- the schedule of all frames in order has each
+in_order : (k : ℕ) (frames : List (List ℕ)) (number : ℕ) → number < length frames → Contains (places_from k frames) (k + number)
+in_order k [] number within = absurd (omega (arith, within))
+in_order k (frame ∷ frames) zero within = (0, omega arith, omega arith)
+in_order k (frame ∷ frames) (suc number) within =
+    let same : k + 1 + number ≡ k + suc number = omega arith in
+    let rest = subst (Contains (places_from (k + 1) frames)) same (in_order (k + 1) frames number (omega (arith, within))) in
+    let inside = rest.1 in
+    (suc rest.0, omega (arith, inside), rest.2)
+
+-- at the end all is delivered
+gives_last : (distance base start : ℕ) (rest : List (List ℕ)) (before after : Receiver) → HasDeliveredAll start before
+    → TakesInOrder distance base start rest before after → HasDeliveredAll start after
+gives_last distance base start [] before after gives takes = subst (HasDeliveredAll start) (sym takes) gives
+gives_last distance base start (frame ∷ rest) before after gives takes = gives_last distance base start rest takes.0 after takes.1.gives takes.2
+
+pub in_order_in_time : InOrderIsInTime
+in_order_in_time hops base acks places frames monitor start last h stay low near takes up =
+    let all =
+    timely hops monitor.distance base start acks places frames h stay low near acks frames 0 beginning last (rest_all ℕ acks)
+    (rest_all (List ℕ) frames) (omega arith) (omega arith) (caught_none places frames start) takes up in
+    record {
+      in_time = record { delivery = record { last = last; run = all.run; stream_is = refl; ended_is = refl }; timely = all.timely };
+      hears = λ number within. let same : 0 + number ≡ number = omega arith in subst (Contains (places_from 0 frames)) same (in_order 0 frames number within);
+      keeps = all.keeps;
+      gives = gives_last monitor.distance base start frames beginning last (caught_none places frames start).gives takes;
+    }

@@ -13,3 +13,4 @@ pub mod Monitors
 pub mod Messages
 pub mod Tests
 pub mod Written
+pub mod Parts

@@ -2,11 +2,33 @@
 ghost use Rattle.receiver_model.specs.Agreement.{MembersAgree};
 ghost use Rattle.receiver_model.specs.Messages.{PlainIsReadAlike};
 ghost use Rattle.receiver_model.specs.Monitors.{MonitorsAreInTime, MonitorsMissNothing, StreamsAreMonitors};
+ghost use Rattle.receiver_model.specs.Parts.{InOrderIsInTime, MembersReadParts, MonitorsCoverParts, PartsMeet};
 ghost use Rattle.receiver_model.specs.Written.{AreRead};
 
 /// Proves that frames which describe one stream make any two members agree.
 pub fn members_agree()
     ensures { MembersAgree }
+{}
+
+/// Proves that every member reads a part of the stream that frames describe, from whichever offset
+/// it starts.
+pub fn members_read_parts()
+    ensures { MembersReadParts }
+{}
+
+/// Proves that two parts of one stream have the same octet wherever both have one, that none has an
+/// octet at or past the offset at which the other has ended, and that one is a prefix of the other
+/// if both have one start.
+pub fn parts_meet()
+    ensures { PartsMeet }
+{}
+
+/// Proves that a monitor which hears the frames in time has read all that any member has which
+/// starts within what the monitor has read, and has ended if that member has. One that takes them in
+/// order hears them so, if it is never far behind what was acknowledged.
+pub fn monitors_cover_parts()
+    ensures in_time { MonitorsCoverParts }
+    ensures in_order { InOrderIsInTime }
 {}
 
 /// Proves that a monitor misses nothing of frames that describe one stream: a member that hears

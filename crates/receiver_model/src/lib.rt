@@ -7,10 +7,14 @@
 //! each octet not yet read and delivers all that it can, has a stream of which every other
 //! receiver's is a prefix (`laws::monitors_miss_nothing`). It hears the frames in any order, each in
 //! time; or in order, whenever they arrive, if they stay near what was acknowledged. In order each
-//! is in time while the monitor is not far behind that (`laws::monitors_are_in_time`). A `Stream`
-//! with any of four policies is a receiver of the family, and a monitor once it has taken every
-//! frame in order (`laws::streams_are_monitors`). `Family::agree` returns exactly whether each two of the four
-//! agree, and they do if their frames describe one stream and arrive in time. `plain` returns
+//! is in time while the monitor is not far behind that (`laws::monitors_are_in_time`). From whichever
+//! offset a receiver starts, it reads a part of the one stream (`laws::members_read_parts`), so any
+//! two have the same octet wherever both have one (`laws::parts_meet`). A monitor that hears the
+//! frames in time has all that a receiver has which starts within what the monitor has read
+//! (`laws::monitors_cover_parts`). A `Stream` with any of four policies is a receiver of the family,
+//! and a monitor once it has taken every frame in order (`laws::streams_are_monitors`).
+//! `Family::agree` returns exactly whether each two of the four agree, and they do if their frames
+//! describe one stream and arrive in time. `plain` returns
 //! exactly whether a packet is plain. A written header and segment are plain for every number of
 //! routers below the TTL, and are read as that segment (`laws::written_packets_are_read`). Any two
 //! receivers read a plain packet as the same segment, UDP datagram or ICMP message
