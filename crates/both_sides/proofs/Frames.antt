@@ -16,7 +16,8 @@ use Rattle.rule_book.specs.declared.rule.Rule.{Rule}
 use Rattle.norm_settings.specs.Settings.{PlainSettings}
 use Rattle.ip_rules.specs.Rows.{carries_ip}
 use Rattle.receiver_model.specs.Monitors.{EraMissesNothing}
-use Rattle.era_state.specs.Quantities.{base_of}
+use Rattle.receiver_model.specs.Parts.{EachReadsPart}
+use Rattle.era_state.specs.Quantities.{base_of, end_of, first as first_octet}
 use Rattle.era_agreement.specs.Sent.{inward_packets, inward_places, written_in}
 use Rattle.era_agreement.specs.Agreement.{EraIsSound}
 use Rattle.norm_engine.specs.Items.{Item}
@@ -36,7 +37,7 @@ use Rattle.rule_book.proofs.Lists.{all-append}
 use Rattle.norm_engine.specs.Sending.{ArePlainInwards, HasShortFrames, IsPlainInwards}
 use Rattle.norm_engine.proofs.Links.{frame_few, ip_kind}
 use Rattle.emit_mtu.proofs.Links.{kind_sized}
-use Rattle.both_sides.specs.Cut.{AgreesWhole, CleanIsWritten, FramesHaveOctets, HaveFrameOctets, MissesNothingWhole, NoneIsLong, WritesPayload, WrittenWhole, cuts_some, frames_written, is_of_cuts, item_written, keeps_some_back, places_written, rules_cut, verdict_cut}
+use Rattle.both_sides.specs.Cut.{AgreesWhole, CleanIsWritten, FramesHaveOctets, HaveFrameOctets, MissesNothingWhole, NoneIsLong, ReadsWhole, WritesPayload, WrittenWhole, cuts_some, frames_written, is_of_cuts, item_written, keeps_some_back, places_written, rules_cut, verdict_cut}
 
 -- What is written of a lawful trace.
 
@@ -62,6 +63,22 @@ agrees_whole settings link trace none =
     let P = AgreesUnder settings link trace in (
       (λ agree. subst (λ (m : Option ℕ). P m trace) none (subst (λ (t : List Item). P settings.mtu t) same agree)),
       (λ agree. subst (λ (t : List Item). P settings.mtu t) (sym same) (subst (λ (m : Option ℕ). P m trace) (sym none) agree)),
+    )
+
+-- the same of the parts that receivers read
+abbrev ReadsUnder : (settings : PlainSettings) (link : Link) (trace : List Item) → (mtu : Option ℕ) (as_written : List Item) → Type 0
+ReadsUnder settings link trace mtu as_written =
+    (era base : ℕ) → let sent = sent_in link trace in let ws = written_in era sent in
+    base_of ws ≡ Some base
+    → EachReadsPart settings.hops base (places_written mtu (inward_places era base sent) (inward_packets era sent)) (inward_packets era (sent_in link as_written))
+    (first_octet base ws) (end_of base ws)
+
+pub reads_whole : ReadsWhole
+reads_whole settings link trace none =
+    let same = written_whole settings link trace none in
+    let P = ReadsUnder settings link trace in (
+      (λ reads. subst (λ (m : Option ℕ). P m trace) none (subst (λ (t : List Item). P settings.mtu t) same reads)),
+      (λ reads. subst (λ (t : List Item). P settings.mtu t) (sym same) (subst (λ (m : Option ℕ). P m trace) (sym none) reads)),
     )
 
 -- the same of monitors

@@ -6,3 +6,5 @@ pub mod Frames
 pub mod Runs
 pub mod Receivers
 pub mod RelayedPackets
+pub mod BroughtRuns
+pub mod RecordedRuns

@@ -1,4 +1,4 @@
--- Receivers agree on what was written of each era, also under an MTU, and a monitor misses nothing of it.
+-- Receivers agree on what was written of each era, also under an MTU, and read parts of one stream; and a monitor misses nothing of it.
 use Rattle.std.proofs.Common.{ℤ, ◌≡◌, ℕ, ◌+◌, ◌==◌, ◌&&◌, not, nat_lt, Bool, cond, All, List, ◌++◌, length, map, get_or, Option, Some, None, refl, sym, ap, ap₂, subst, ◌∙◌, arith, true, false, [], ◌∷◌}
 use Rattle.std.specs.List.{AllByRecursion, flat_map}
 use Rattle.std.proofs.lemmas.Bool.{and_parts}
@@ -15,19 +15,20 @@ use Rattle.norm_settings.specs.Settings.{PlainSettings}
 use Rattle.ip_rules.specs.Rows.{is_inward}
 use Rattle.receiver_model.specs.Agreement.{MembersAgree, TellOneStream}
 use Rattle.receiver_model.specs.Monitors.{MonitorsMissNothing, StayNearAcks}
-use Rattle.era_state.specs.Quantities.{base_of}
+use Rattle.receiver_model.specs.Parts.{AreOfStream, MembersReadParts}
+use Rattle.era_state.specs.Quantities.{base_of, end_of, first}
 use Rattle.era_agreement.specs.Sent.{Sent, inward_packets, inward_places, inward_acks, is_era, written_in}
 use Rattle.era_agreement.specs.Agreement.{EraIsSound, IsSilentPacket}
 use Rattle.norm_engine.specs.Items.{Item}
 use Rattle.norm_engine.specs.Agreement.{AtEachHistory, sent_in}
-use Rattle.norm_engine.specs.Laws.{IsSound, LawfulAgrees, LawfulStaysNearAcks, LawfulTellsStreams}
+use Rattle.norm_engine.specs.Laws.{IsSound, LawfulAgrees, LawfulIsOfOneStream, LawfulStaysNearAcks, LawfulTellsStreams}
 use Rattle.norm_engine.specs.Outgoing.{CarriesWhole, IsOutgoing}
 use Rattle.emit_mtu.specs.declared.long.LongKind.{LongKind}
 use Rattle.emit_mtu.specs.Frames.{AreOctets}
 use Rattle.emit_mtu.specs.Long.{is_long, is_marked, long_kind, may_be_cut}
-use Rattle.emit_mtu.specs.Streams.{CutStaysNearAcks, CutTellsOneStream, PacketsGoOutAlike, frames_for, frames_of, packets_for, places_for, acks_for}
+use Rattle.emit_mtu.specs.Streams.{CutIsOfStream, CutStaysNearAcks, CutTellsOneStream, PacketsGoOutAlike, frames_for, frames_of, packets_for, places_for, acks_for}
 use Rattle.emit_mtu.proofs.Links.{kind_sized, octets_in}
-use Rattle.both_sides.specs.Cut.{AgreeAsWritten, HaveFrameOctets, MissesNothingAsWritten, item_written, places_written}
+use Rattle.both_sides.specs.Cut.{AgreeAsWritten, HaveFrameOctets, MissesNothingAsWritten, ReadsOneStreamAsWritten, item_written, places_written}
 use Rattle.both_sides.proofs.Frames.{InRange, all_flat, same_trace}
 use Rattle.emit_mtu.specs.declared.long.LongKind.TheVariants.{Fits, Cut, Drop}
 
@@ -108,6 +109,9 @@ pub record StreamLaws : Type 0 where
   pub cut : CutTellsOneStream
   pub cut_acks : CutStaysNearAcks
   pub members : MembersAgree
+  pub of : LawfulIsOfOneStream
+  pub cut_of : CutIsOfStream
+  pub parts : MembersReadParts
   pub monitors : MonitorsMissNothing
 
 -- what is written in an era with a base describes one stream
@@ -177,6 +181,34 @@ agree_by laws (Some mtu) settings link trace range sound each octets era = by (b
 pub agree_as_written : StreamLaws → (settings : PlainSettings) (link : Link) (trace : List Item) → InRange settings.mtu → IsSound settings link trace → AllByRecursion (IsOutgoing link) trace
     → HaveFrameOctets settings.mtu trace → AgreeAsWritten settings link trace
 agree_as_written laws settings link trace range sound each octets = agree_by laws settings.mtu settings link trace range sound each octets
+
+-- what is written in an era with a base is of the era's stream
+of_by : StreamLaws → (mtu : Option ℕ) (settings : PlainSettings) (link : Link) (trace : List Item) → InRange mtu → IsSound settings link trace → AllByRecursion (IsOutgoing link) trace
+    → HaveFrameOctets mtu trace → (era base : ℕ) → let ws = written_in era (sent_in link trace) in base_of ws ≡ Some base
+    → AreOfStream (first base ws) (end_of base ws) (places_written mtu (inward_places era base (sent_in link trace)) (inward_packets era (sent_in link trace)))
+    (inward_packets era (sent_in link (map (item_written mtu link) trace)))
+of_by laws None settings link trace range sound each octets era base is =
+    let sent = sent_in link trace in
+    let ws = written_in era sent in
+    subst (λ t. AreOfStream (first base ws) (end_of base ws) (inward_places era base sent) (inward_packets era (sent_in link t))) (sym (same_trace link trace))
+    (laws.of settings link trace sound era base is)
+of_by laws (Some mtu) settings link trace range sound each octets era base is =
+    let sent = sent_in link trace in
+    let ws = written_in era sent in
+    let packets = inward_packets era sent in
+    let most = range.1 in
+    subst (AreOfStream (first base ws) (end_of base ws) (places_for mtu (inward_places era base sent) packets)) (sym (inward_cut link mtu laws.alike era trace each))
+    (laws.cut_of settings.hops base mtu (inward_places era base sent) packets (first base ws) (end_of base ws) range.0 (omega (arith, most))
+    (inward_octets link mtu laws.alike era trace octets) (laws.tells settings link trace sound era base is).stream (laws.of settings link trace sound era base is))
+
+pub reads_as_written : StreamLaws → (settings : PlainSettings) (link : Link) (trace : List Item) → InRange settings.mtu → IsSound settings link trace → AllByRecursion (IsOutgoing link) trace
+    → HaveFrameOctets settings.mtu trace → ReadsOneStreamAsWritten settings link trace
+reads_as_written laws settings link trace range sound each octets era base is =
+    let sent = sent_in link trace in
+    let ws = written_in era sent in
+    laws.parts settings.hops base (places_written settings.mtu (inward_places era base sent) (inward_packets era sent))
+    (inward_packets era (sent_in link (map (item_written settings.mtu link) trace))) (first base ws) (end_of base ws)
+    (tells_by laws settings.mtu settings link trace range sound each octets era base is) (of_by laws settings.mtu settings link trace range sound each octets era base is)
 
 misses_as_written : StreamLaws → (settings : PlainSettings) (link : Link) (trace : List Item) → InRange settings.mtu → IsSound settings link trace → AllByRecursion (IsOutgoing link) trace
     → HaveFrameOctets settings.mtu trace → MissesNothingAsWritten settings link trace

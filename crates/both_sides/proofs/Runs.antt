@@ -12,7 +12,7 @@ use Rattle.norm_engine.specs.Items.{Item, entries, packets}
 use Rattle.norm_engine.specs.Trace.{Lawful, item_of}
 use Rattle.norm_engine.specs.Engine.{Engaged}
 use Rattle.norm_engine.specs.Engine as single
-use Rattle.norm_engine.specs.Laws.{IsSound, LawfulIsWithin, LawfulKeepsClean, LawfulMissesNothing, LawfulIsOne}
+use Rattle.norm_engine.specs.Laws.{IsSound, LawfulIsWithin, LawfulKeepsClean, LawfulMissesNothing, LawfulIsOne, LawfulReadsOneStream}
 use Rattle.norm_engine.specs.Sending.{LawfulIsPlainInwards, LawfulIsShort}
 use Rattle.both_sides.specs.Traces.{behind, mirrored, record_of, records_for, records_of}
 use Rattle.both_sides.specs.Cut.{item_written, written, LawfulIsWrittenSoundly}
@@ -198,6 +198,7 @@ pub record SoundLaws : Type 0 where
   pub within : LawfulIsWithin
   pub through : FramesGoThrough
   pub agree : BothAgree
+  pub reads : LawfulReadsOneStream
   pub misses : LawfulMissesNothing
   pub plain : LawfulIsPlainInwards
   pub short : LawfulIsShort
@@ -218,6 +219,8 @@ soundly laws settings link (two trace mirror) range together lawful octets sidel
       within_behind = laws.within (mirrored settings) link mirror back;
       agree = agree.0;
       agree_behind = agree.1;
+      reads = laws.reads settings link trace front;
+      reads_behind = laws.reads (mirrored settings) link mirror back;
       monitor = laws.misses settings link trace front;
       monitor_behind = laws.misses (mirrored settings) link mirror back;
       through = laws.through settings link trace mirror pair;

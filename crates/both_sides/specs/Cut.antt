@@ -11,7 +11,8 @@ use Rattle.rule_book.specs.declared.entry.Verdict.TheVariants as verdicts
 use Rattle.rule_book.specs.Entries.{PlainEntry}
 use Rattle.norm_settings.specs.Settings.{AreInRange, PlainSettings}
 use Rattle.receiver_model.specs.Monitors.{EraMissesNothing}
-use Rattle.era_state.specs.Quantities.{base_of}
+use Rattle.receiver_model.specs.Parts.{EachReadsPart}
+use Rattle.era_state.specs.Quantities.{base_of, end_of, first}
 use Rattle.era_agreement.specs.Sent.{inward_packets, inward_places, written_in}
 use Rattle.era_agreement.specs.Agreement.{EraIsSound}
 use Rattle.norm_engine.specs.Items.{Item}
@@ -105,6 +106,15 @@ AgreeAsWritten settings link trace =
     EraIsSound settings.hops (base_of (written_in era sent)) (λ base. places_written settings.mtu (inward_places era base sent) (inward_packets era sent))
     (inward_packets era (sent_in link (written settings link trace)))
 
+-- In each era whose base is fixed, any receiver, from whichever offset it starts, reads a part of one stream of the packets that are written inwards. The
+-- base, the offsets, the octets and the end of that stream are those of the lawful trace.
+abbrev pub ReadsOneStreamAsWritten : PlainSettings → Link → List Item → Type 0
+ReadsOneStreamAsWritten settings link trace =
+    (era base : ℕ) → let sent = sent_in link trace in let ws = written_in era sent in
+    base_of ws ≡ Some base →
+    EachReadsPart settings.hops base (places_written settings.mtu (inward_places era base sent) (inward_packets era sent))
+    (inward_packets era (sent_in link (written settings link trace))) (first base ws) (end_of base ws)
+
 -- In each era whose base is fixed, a monitor misses nothing of the packets that are written inwards. The base and the offsets are those of the lawful trace.
 abbrev pub MissesNothingAsWritten : PlainSettings → Link → List Item → Type 0
 MissesNothingAsWritten settings link trace =
@@ -118,6 +128,12 @@ abbrev pub AgreesWhole : Type 0
 AgreesWhole = (settings : PlainSettings) (link : Link) (trace : List Item) → settings.mtu ≡ None
     → (AgreeAsWritten settings link trace → Agree settings.hops link trace) × (Agree settings.hops link trace → AgreeAsWritten settings link trace)
 
+-- receivers read parts of one stream of what is written exactly if they do of the trace
+abbrev pub ReadsWhole : Type 0
+ReadsWhole = (settings : PlainSettings) (link : Link) (trace : List Item) → settings.mtu ≡ None
+    → (ReadsOneStreamAsWritten settings link trace → norm_engine.ReadsOneStream settings.hops link trace)
+    × (norm_engine.ReadsOneStream settings.hops link trace → ReadsOneStreamAsWritten settings link trace)
+
 -- and a monitor misses nothing of what is written exactly if it misses nothing of the trace
 abbrev pub MissesNothingWhole : Type 0
 MissesNothingWhole = (settings : PlainSettings) (link : Link) (trace : List Item) → settings.mtu ≡ None
@@ -130,12 +146,14 @@ NoneIsLong None link trace = Unit {0}
 NoneIsLong (Some mtu) link trace = AllByRecursion (λ item. All (λ frame. is_long link mtu frame ≡ false) item.frames) trace
 
 -- What is written of a trace. Each clean record has one frame with the record's payload, or the segments that carry it, unless a frame of the record is too
--- long and dropped; receivers agree on what is written, and before the first record and after each a monitor has missed nothing; no frame of it is too long, by
--- the MTU or for a capture; each frame written inwards is plain, except ARP; and after no record more is held than the settings allow.
+-- long and dropped; receivers agree on what is written, and read parts of one stream, and before the first record and after each a monitor has missed nothing;
+-- no frame of it is too long, by the MTU or for a capture; each frame written inwards is plain, except ARP; and after no record more is held than the settings
+-- allow.
 pub record IsWrittenSoundly (settings : PlainSettings) (link : Link) (trace : List Item) : Type 0 where
   pub clean_kept : CleanIsWritten settings link trace
   pub within : IsAlwaysWithin settings link trace
   pub agree : AgreeAsWritten settings link trace
+  pub reads : ReadsOneStreamAsWritten settings link trace
   pub monitor : AtEachHistory (MissesNothingAsWritten settings link) trace
   pub none_long : NoneIsLong settings.mtu link (written settings link trace)
   pub plain : ArePlainInwards settings.hops link (written settings link trace)

@@ -11,3 +11,5 @@ pub mod Relays
 pub mod Steps
 pub mod Judged
 pub mod RunLaws
+pub mod Brought
+pub mod Recorded

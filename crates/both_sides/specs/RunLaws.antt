@@ -8,7 +8,7 @@ use Rattle.rule_book.specs.declared.last.Last.{Last}
 use Rattle.rule_book.specs.Text.{report_text}
 use Rattle.norm_settings.specs.Settings.{AreInRange, GoTogether, PlainSettings}
 use Rattle.norm_engine.specs.Items.{Item, entries}
-use Rattle.norm_engine.specs.Agreement.{Agree, AtEachHistory, MissesNothing}
+use Rattle.norm_engine.specs.Agreement.{Agree, AtEachHistory, MissesNothing, ReadsOneStream}
 use Rattle.norm_engine.specs.Clean.{CleanIsKept}
 use Rattle.norm_engine.specs.Laws.{IsAlwaysWithin}
 use Rattle.norm_engine.specs.Sending.{ArePlainInwards, HasShortFrames}
@@ -66,9 +66,9 @@ LawfulRunsAreOne =
     (settings : PlainSettings) (link : Link) (run other : RunTrace) → LawfulRun settings link run → LawfulRun settings link other → packets_of run ≡ packets_of other
     → run ≡ other
 
--- What two engines write: the clean records of each keep their payload, and after none more is held than the settings allow; receivers agree on either side,
--- and a monitor there misses nothing; frames written inwards pass the second engine octet for octet, so that both hold of what was written; each frame written
--- inwards by an engine is plain, except ARP; and no frame is too long for a capture.
+-- What two engines write: the clean records of each keep their payload, and after none more is held than the settings allow; receivers agree on either side and
+-- read parts of one stream, and a monitor there misses nothing; frames written inwards pass the second engine octet for octet, so that all three hold of what was
+-- written; each frame written inwards by an engine is plain, except ARP; and no frame is too long for a capture.
 pub record AreWrittenSoundly (settings : PlainSettings) (link : Link) (trace mirror : List Item) : Type 0 where
   pub clean_kept : CleanIsKept settings link trace
   pub clean_kept_behind : CleanIsKept (mirrored settings) link mirror
@@ -76,6 +76,8 @@ pub record AreWrittenSoundly (settings : PlainSettings) (link : Link) (trace mir
   pub within_behind : IsAlwaysWithin (mirrored settings) link mirror
   pub agree : Agree settings.hops link trace
   pub agree_behind : Agree settings.hops link mirror
+  pub reads : ReadsOneStream settings.hops link trace
+  pub reads_behind : ReadsOneStream settings.hops link mirror
   pub monitor : AtEachHistory (MissesNothing settings.hops link) trace
   pub monitor_behind : AtEachHistory (MissesNothing settings.hops link) mirror
   pub through : InwardGoesThrough trace mirror

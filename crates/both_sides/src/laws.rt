@@ -1,19 +1,23 @@
 //! Laws of the traces of two engines in sequence, of the traces of runs, and of the outputs for them.
-ghost use Rattle.both_sides.specs.Cut.{AgreesWhole, LawfulIsWrittenSoundly, MissesNothingWhole, WrittenWhole};
+ghost use Rattle.both_sides.specs.Cut.{AgreesWhole, LawfulIsWrittenSoundly, MissesNothingWhole, ReadsWhole, WrittenWhole};
 ghost use Rattle.both_sides.specs.Laws.{BothAgree, FramesGoThrough};
 ghost use Rattle.both_sides.specs.RunLaws.{LawfulRunsAreOne, OnePutsItsTrace, RunsAreWrittenSoundly, RunsBegin, RunsGoOn, TwoPutTheirMirror};
+ghost use Rattle.both_sides.specs.Brought.{RunsAreBrought, RunsReadRecords};
+ghost use Rattle.both_sides.specs.Recorded.{ErasOfRunsGoOn, RunsWereReadSo};
 
 use emit_mtu::laws::{
-    cut_packets_tell_one_stream, plain_packets_go_out, segments_are_plain,
-    segments_carry_the_payload, segments_fit,
+    cut_packets_are_of_the_stream, cut_packets_tell_one_stream, plain_packets_go_out,
+    segments_are_plain, segments_carry_the_payload, segments_fit,
 };
 use ip_rules::laws::{anew_is_packet, datagrams_are_known};
 use norm_engine::laws::{
-    items_go_out, lawful_agrees, lawful_is_one, lawful_is_plain_inwards, lawful_is_short,
-    lawful_is_within, lawful_keeps_clean, lawful_misses_nothing, lawful_stays_near_acks,
-    lawful_tells_streams,
+    items_go_out, lawful_agrees, lawful_clashes_are_real, lawful_eras_go_on,
+    lawful_fragment_clashes_are_real, lawful_invents_nothing, lawful_is_one,
+    lawful_is_plain_inwards, lawful_is_short, lawful_is_within, lawful_keeps_clean,
+    lawful_misses_nothing, lawful_reads_one_stream, lawful_stays_near_acks, lawful_tells_streams,
+    unchanged_traces_were_read_so,
 };
-use receiver_model::laws::{members_agree, monitors_miss_nothing};
+use receiver_model::laws::{members_agree, members_read_parts, monitors_miss_nothing};
 use tcp_norm::laws::{packets_are_its_own, packets_are_plain};
 
 /// Proves that each frame which the first engine writes for a record that does not go outwards
@@ -61,17 +65,20 @@ pub fn lawful_runs_are_one()
 }
 
 /// Proves that without an MTU what is written of a trace is the trace, so receivers agree on what is
-/// written exactly if they agree on the trace, and so with monitors, which miss nothing.
+/// written exactly if they agree on the trace, and so with the parts of one stream that they read,
+/// and with monitors, which miss nothing.
 pub fn unbounded_is_written_whole()
     ensures whole { WrittenWhole }
     ensures agree { AgreesWhole }
+    ensures reads { ReadsWhole }
     ensures monitor { MissesNothingWhole }
 {}
 
 /// Proves of what is written of each sound trace: a clean record has its payload, in one frame or
-/// in segments, unless a frame of the record is too long and dropped; receivers agree on it, and
-/// before the first record and after each a monitor has missed nothing; no frame of it is too long;
-/// each frame written inwards is plain, except ARP; and no more is held than the settings allow.
+/// in segments, unless a frame of the record is too long and dropped; receivers agree on it and read
+/// parts of one stream, and before the first record and after each a monitor has missed nothing; no
+/// frame of it is too long; each frame written inwards is plain, except ARP; and no more is held than
+/// the settings allow.
 pub fn lawful_is_written_soundly()
     ensures { LawfulIsWrittenSoundly }
 {
@@ -88,13 +95,16 @@ pub fn lawful_is_written_soundly()
     plain_packets_go_out();
     cut_packets_tell_one_stream();
     members_agree();
+    lawful_reads_one_stream();
+    cut_packets_are_of_the_stream();
+    members_read_parts();
     lawful_stays_near_acks();
     monitors_miss_nothing();
 }
 
 /// Proves the same of each lawful run by one engine. Of one by two: clean records keep their
 /// payload in each trace, no more is held in either than the settings allow, receivers agree on
-/// either side, and a monitor there misses nothing.
+/// either side and read parts of one stream, and a monitor there misses nothing.
 pub fn runs_are_written_soundly()
     ensures { RunsAreWrittenSoundly }
 {
@@ -105,5 +115,51 @@ pub fn runs_are_written_soundly()
     lawful_is_short();
     frames_go_through();
     both_agree();
+    lawful_reads_one_stream();
     lawful_misses_nothing();
+}
+
+/// Proves of each lawful run that in each era of each engine each octet of the stream, and its end,
+/// was brought by the very record of that engine that added it, which for the second is a frame of
+/// the first. A line names T_CLASH exactly if its record is written, has neither SYN nor RST, and
+/// has, at an offset at or past Acked, another octet than the one written first there; and F_CLASH
+/// exactly if its record carries a fragment, which no rule tested before drops, with another octet
+/// than a held one.
+pub fn runs_invent_nothing()
+    ensures { RunsAreBrought }
+{
+    lawful_invents_nothing();
+    lawful_clashes_are_real();
+    lawful_fragment_clashes_are_real();
+}
+
+/// Proves of each lawful run that receivers of the packets written read only what records brought.
+/// If no record of an era differs from an earlier one at an offset at or past Acked, no line of it
+/// names T_CLASH, and receivers read what the sender gave.
+pub fn runs_read_records()
+    ensures { RunsReadRecords }
+{
+    runs_are_written_soundly();
+    runs_invent_nothing();
+}
+
+/// Proves of what is written of each lawful run by one engine, without an MTU: if each line that is
+/// inbound or has no side is `pass`, the recorded packets that go inwards are those that were
+/// written, and were read so. The same of the records and eras of a pair of addresses.
+pub fn unchanged_runs_were_read_so()
+    ensures { RunsWereReadSo }
+{
+    unchanged_traces_were_read_so();
+    unbounded_is_written_whole();
+}
+
+/// Proves of any two eras of a lawful run, by one engine without an MTU or by two: if all that was
+/// written inwards in the first is acknowledged, and the base of the second is not before that, no
+/// octet of the second is at an offset that a receiver has read in the first. If besides no FIN was
+/// written inwards in the first and no SYN in the second, both are read as one era.
+pub fn eras_of_runs_go_on()
+    ensures { ErasOfRunsGoOn }
+{
+    lawful_eras_go_on();
+    unbounded_is_written_whole();
 }

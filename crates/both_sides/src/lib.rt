@@ -8,7 +8,7 @@
 //! frames that the second engine gives the next of them. Laws, for records of octets and at most
 //! 254 routers: each frame that the first engine writes for a record which does not go outwards
 //! passes the second one octet for octet, if no record has a side of its own; in each era of either
-//! trace all receivers agree.
+//! trace all receivers agree and read parts of one stream.
 //!
 //! Proved of `Relay::relay`: all frames that the record has are written, and then its lines; if a
 //! sink fails, a prefix of these. The engines then represent the run with this record, and what is

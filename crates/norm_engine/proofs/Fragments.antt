@@ -53,7 +53,7 @@ pub record IsOffered (settings : PlainSettings) (link : Link) (past : Past) (r :
   pub offering : offering_in settings link past.pieces r ≡ Some o
 
 -- no datagram is made by a fragment that does not complete it
-unmade : (settings : PlainSettings) (link : Link) (past : Past) (r : Record) (o : Offering) → IsOffered settings link past r o → completes o ≡ false → datagram_by settings link past.pieces r ≡ None
+pub unmade : (settings : PlainSettings) (link : Link) (past : Past) (r : Record) (o : Offering) → IsOffered settings link past r o → completes o ≡ false → datagram_by settings link past.pieces r ≡ None
 unmade settings link past r o is other =
     let p = packet_in link r.octets in
     let make = datagram_made settings (ip_fixes settings link r piece_fix_rows) (head_of_whole (fields_of p) (whole_of (pieces_with o))) (datagram_octets (pieces_with o)) in

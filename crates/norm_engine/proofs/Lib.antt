@@ -8,9 +8,16 @@ pub mod Receivers
 pub mod Payloads
 pub mod EngineStates
 pub mod OneReading
+pub mod BroughtOctets
+pub mod GivenOctets
+pub mod HeldFragments
+pub mod FragmentClashes
 pub mod ItemFrames
 pub mod Datagrams
 pub mod Frames
 pub mod Fragments
 pub mod SegmentPackets
 pub mod Messages
+pub mod RecordedPackets
+pub mod ErasInTurn
+pub mod EraPairs

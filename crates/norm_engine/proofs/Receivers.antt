@@ -17,7 +17,7 @@ use Rattle.ip_rules.specs.Datagrams.{Datagram, Packet, DatagramsAreKnown, IsPack
 use Rattle.era_state.specs.Emission.{AreEmitted}
 use Rattle.era_agreement.specs.Sent.{Sent, is_era, inward_packets, aside_packets, written_as, segments_in, written_in, inward_places}
 use Rattle.era_agreement.specs.Agreement.{IsSilentPacket, read_to}
-use Rattle.era_agreement.specs.Laws.{EmittedAgrees, EmittedMissesNothing, EmittedStaysNearAcks, EmittedTellsOneStream, IsEmittedEra, TellsItsStream}
+use Rattle.era_agreement.specs.Laws.{EmittedAgrees, EmittedIsOfOneStream, EmittedMissesNothing, EmittedReadsOneStream, EmittedStaysNearAcks, EmittedTellsOneStream, IsEmittedEra, TellsItsStream}
 use Rattle.tcp_norm.specs.Calls.{Call, Outcome, expiry, datagram, read, segments, is_written}
 use Rattle.tcp_norm.specs.Views.{view_of}
 use Rattle.tcp_norm.specs.Segments.{IsSegment, PacketsAreItsOwn, PacketsArePlain, ProbesAreSilent, CallsAreEmitted, IsSilentPacket as Silent}
@@ -37,7 +37,7 @@ use Rattle.norm_engine.specs.Trace.{item_of, read_after, dropped_by, outcome_of,
 use Rattle.norm_engine.specs.Clean.{HasOctets, HaveOctets}
 use Rattle.norm_engine.specs.Agreement.{sent_for, sent_in}
 use Rattle.norm_engine.specs.Certain.{LawfulIsEmitted}
-use Rattle.norm_engine.specs.Laws.{IsSound, LawfulAgrees, LawfulCallsAreMade, LawfulMissesNothing, LawfulStaysNearAcks, LawfulTellsStreams}
+use Rattle.norm_engine.specs.Laws.{IsSound, LawfulAgrees, LawfulCallsAreMade, LawfulIsOfOneStream, LawfulMissesNothing, LawfulReadsOneStream, LawfulStaysNearAcks, LawfulTellsStreams}
 use Rattle.norm_engine.specs.Waiting.{WaitingIsFew, WaitingIsKept}
 use Rattle.norm_engine.proofs.Links.{packet_behind}
 use Rattle.norm_engine.proofs.Items.{AreOfEra, era_told, sides, segment_frames, segment_verdict}
@@ -237,6 +237,12 @@ agrees laws emitted agree made settings link trace sound = agree settings.hops (
 pub tells : PacketLaws → CallsAreEmitted → EmittedTellsOneStream → LawfulCallsAreMade → LawfulTellsStreams
 tells laws emitted tell made settings link trace sound era base based =
     tell settings.hops era base (sent_in link trace) (emitted_era laws emitted made settings link trace sound era) based
+
+pub of_one_stream : EmittedIsOfOneStream → LawfulIsEmitted → LawfulIsOfOneStream
+of_one_stream of emitted settings link trace sound era base based = of settings.hops era base (sent_in link trace) (emitted settings link trace sound era) based
+
+pub reads_one_stream : EmittedReadsOneStream → LawfulIsEmitted → LawfulReadsOneStream
+reads_one_stream reads emitted settings link trace sound = reads settings.hops (sent_in link trace) (emitted settings link trace sound)
 
 pub misses : EmittedMissesNothing → LawfulIsEmitted → LawfulMissesNothing
 misses miss emitted settings link [] sound = miss settings.hops (sent_in link []) (emitted settings link [] sound)

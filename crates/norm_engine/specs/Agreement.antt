@@ -28,6 +28,12 @@ sent_in link trace = map (sent_for link) trace
 abbrev pub Agree : (hops : ℕ) → Link → List Item → Type 0
 Agree hops link trace = eras.Agree hops (sent_in link trace)
 
+-- In each era of the trace whose base is fixed, any receiver of the family behind at most `hops` routers reads a part of one stream: at each offset the octet
+-- that was written first there, up to the offset of the first FIN, if there is one. It may start at any offset, and any of the packets written inwards reach it,
+-- each in time, how often and in which order.
+abbrev pub ReadsOneStream : (hops : ℕ) → Link → List Item → Type 0
+ReadsOneStream hops link trace = eras.ReadsOneStream hops (sent_in link trace)
+
 -- In each era of the trace whose base is fixed, a monitor behind at most `hops` routers, which takes every packet written inwards, keeps each octet not yet read
 -- and the FIN, and delivers after each packet all that it can, has a stream of which every other receiver's is a prefix, if both start at the same offset and the
 -- other hears its packets in time. It has ended if the other's has. It takes the packets in the order in which they were written, whenever each arrives, from an

@@ -6,8 +6,9 @@ use Rattle.pcap_file.specs.Records.{Packet}
 use Rattle.rule_book.specs.declared.rule.Rule.TheVariants as rules
 use Rattle.rule_book.specs.Entries.{IsOfVersion}
 use Rattle.norm_settings.specs.Settings.{PlainSettings}
-use Rattle.era_state.specs.Quantities.{base_of}
+use Rattle.era_state.specs.Quantities.{base_of, end_of, first}
 use Rattle.receiver_model.specs.Monitors.{StayNearAcks}
+use Rattle.receiver_model.specs.Parts.{AreOfStream}
 use Rattle.era_agreement.specs.Sent.{inward_packets, inward_places, inward_acks, written_in}
 use Rattle.era_agreement.specs.Laws.{TellsItsStream}
 use Rattle.tcp_norm.specs.Calls.{eras}
@@ -18,7 +19,7 @@ use Rattle.norm_engine.specs.Fragments.{piece_calls}
 use Rattle.norm_engine.specs.Calls.{flow_calls}
 use Rattle.norm_engine.specs.Trace.{Lawful, item_of}
 use Rattle.norm_engine.specs.Clean.{HaveOctets, CleanIsKept}
-use Rattle.norm_engine.specs.Agreement.{Agree, AtEachHistory, MissesNothing, sent_in}
+use Rattle.norm_engine.specs.Agreement.{Agree, AtEachHistory, MissesNothing, ReadsOneStream, sent_in}
 
 -- a trace of records of octets that is lawful for settings of at most 254 routers
 pub record IsSound (settings : PlainSettings) (link : Link) (trace : List Item) : Type 0 where
@@ -77,13 +78,25 @@ LawfulLeavesRoom =
 abbrev pub LawfulAgrees : Type 0
 LawfulAgrees = (settings : PlainSettings) (link : Link) (trace : List Item) → IsSound settings link trace → Agree settings.hops link trace
 
+-- In each era of every lawful trace all receivers read parts of one stream.
+abbrev pub LawfulReadsOneStream : Type 0
+LawfulReadsOneStream = (settings : PlainSettings) (link : Link) (trace : List Item) → IsSound settings link trace → ReadsOneStream settings.hops link trace
+
+-- The frames written inwards in an era whose base is fixed are of this stream: their octets and FINs are those written first, and no octet is at or past its
+-- end.
+abbrev pub LawfulIsOfOneStream : Type 0
+LawfulIsOfOneStream =
+    (settings : PlainSettings) (link : Link) (trace : List Item) → IsSound settings link trace
+    → (era base : ℕ) → let sent = sent_in link trace in let ws = written_in era sent in
+    base_of ws ≡ Some base → AreOfStream (first base ws) (end_of base ws) (inward_places era base sent) (inward_packets era sent)
+
 -- At each history of every lawful trace, a monitor misses nothing of what was written inwards in an era so far.
 abbrev pub LawfulMissesNothing : Type 0
 LawfulMissesNothing =
     (settings : PlainSettings) (link : Link) (trace : List Item) → IsSound settings link trace → AtEachHistory (MissesNothing settings.hops link) trace
 
 -- In each era of a lawful trace whose base is fixed, the frames written inwards describe one stream, each at the offset of its number: each of their octets is
--- the first at its offset, and each FIN is the end of the era.
+-- the first at its offset, and each FIN is at the offset of the first one.
 abbrev pub LawfulTellsStreams : Type 0
 LawfulTellsStreams =
     (settings : PlainSettings) (link : Link) (trace : List Item) → IsSound settings link trace

@@ -14,3 +14,8 @@ pub mod Certain
 pub mod Outgoing
 pub mod Sending
 pub mod Waiting
+pub mod Brought
+pub mod Given
+pub mod HeldFragments
+pub mod Recorded
+pub mod TwoEras

@@ -1,20 +1,28 @@
 //! Laws of lawful traces.
+ghost use Rattle.norm_engine.specs.Brought.{ConsistentIsWithoutClash, LawfulClashesAreReal, LawfulInventsNothing};
+ghost use Rattle.norm_engine.specs.Given.{LawfulReadsRecords};
+ghost use Rattle.norm_engine.specs.HeldFragments.{LawfulFragmentClashesAreReal, LawfulJoinsHeld};
 ghost use Rattle.norm_engine.specs.Certain.{ItemsAreCertain, LawfulIsEmitted};
-ghost use Rattle.norm_engine.specs.Laws.{ItemsAreCounted, LawfulAgrees, LawfulCallsAreMade, LawfulIsOne, LawfulIsWithin, LawfulKeepsClean, LawfulLeavesRoom, LawfulMissesNothing, LawfulStaysNearAcks, LawfulTellsStreams};
+ghost use Rattle.norm_engine.specs.Laws.{ItemsAreCounted, LawfulAgrees, LawfulCallsAreMade, LawfulIsOfOneStream, LawfulIsOne, LawfulIsWithin, LawfulKeepsClean, LawfulLeavesRoom, LawfulMissesNothing, LawfulReadsOneStream, LawfulStaysNearAcks, LawfulTellsStreams};
 ghost use Rattle.norm_engine.specs.Outgoing.{ItemsGoOut};
+ghost use Rattle.norm_engine.specs.Recorded.{LawfulWasReadSo};
+ghost use Rattle.norm_engine.specs.TwoEras.{LawfulErasGoOn};
 ghost use Rattle.norm_engine.specs.Waiting.{WaitingIsFew, WaitingIsKept};
 ghost use Rattle.norm_engine.specs.Sending.{LawfulIsPlainInwards, LawfulIsShort, PlainIsReadAlike};
 
 use era_agreement::laws::{
-    emitted_agrees, emitted_misses_nothing, emitted_stays_near_acks, emitted_tells_one_stream,
+    emitted_agrees, emitted_misses_nothing, emitted_reads_one_stream, emitted_stays_near_acks,
+    emitted_tells_one_stream, eras_are_read_as_one,
 };
+use era_state::laws::written_remains;
 use ip_rules::laws::{anew_is_packet, datagrams_are_known};
 use reassembly::laws::answered_is_within;
 use receiver_model::laws::plain_packets_are_read_alike;
 use tcp_codec::laws::{mended_say_the_same, options_are_cleaned, segments_are_read_back};
 use tcp_norm::laws::{
-    calls_are_emitted, clean_keeps_payload, flows_are_bounded, held_is_bounded,
-    packets_are_its_own, packets_are_plain, probes_are_silent, quota_leaves_room,
+    calls_are_emitted, clashes_are_real, clean_keeps_payload, flows_are_bounded, held_is_bounded,
+    octets_are_brought, packets_are_its_own, packets_are_plain, probes_are_silent,
+    quota_leaves_room,
 };
 
 /// Proves that an entry counts the frames of its item, of which there are at most two, and reports
@@ -93,6 +101,16 @@ pub fn lawful_tells_streams()
     calls_are_emitted();
     emitted_tells_one_stream();
     lawful_calls_are_made();
+}
+
+/// Proves that in each era of every lawful trace all receivers read parts of one stream, from
+/// whichever offset each starts, and that the frames written inwards are of that stream.
+pub fn lawful_reads_one_stream()
+    ensures frames { LawfulIsOfOneStream }
+    ensures receivers { LawfulReadsOneStream }
+{
+    emitted_reads_one_stream();
+    lawful_is_emitted();
 }
 
 /// Proves that the frames written inwards in an era of a lawful trace stay near what was
@@ -191,4 +209,96 @@ pub fn monitors_need_cells()
     packets_are_its_own();
     packets_are_plain();
     probes_are_silent();
+}
+
+/// Proves that each octet of an era's stream in a lawful trace, and its end, was brought by the very
+/// record that added it: one that went inwards and was written in the era, and whose own segment has
+/// it at this offset.
+pub fn lawful_invents_nothing()
+    ensures { LawfulInventsNothing }
+{
+    datagrams_are_known();
+    packets_are_its_own();
+    packets_are_plain();
+    probes_are_silent();
+    written_remains();
+    octets_are_brought();
+    clashes_are_real();
+    lawful_calls_are_made();
+}
+
+/// Proves that the entry of a record in a lawful trace names T_CLASH exactly if the record is written,
+/// has neither SYN nor RST, and has, at an offset at or past Acked, another octet than the one
+/// written first there.
+pub fn lawful_clashes_are_real()
+    ensures { LawfulClashesAreReal }
+{
+    datagrams_are_known();
+    packets_are_its_own();
+    packets_are_plain();
+    probes_are_silent();
+    written_remains();
+    octets_are_brought();
+    clashes_are_real();
+    lawful_calls_are_made();
+}
+
+/// Proves that no entry of an era in a lawful trace names T_CLASH if no record of the era differs
+/// from an earlier one at an offset at or past Acked.
+pub fn consistent_is_without_clash()
+    ensures { ConsistentIsWithoutClash }
+{
+    lawful_clashes_are_real();
+}
+
+/// Proves that receivers of the frames of an era in a lawful trace read only what records brought.
+/// If no record of the era differs from an earlier one at an offset at or past Acked, no entry of it
+/// names T_CLASH, and receivers read what the sender gave.
+pub fn lawful_reads_records()
+    ensures { LawfulReadsRecords }
+{
+    lawful_invents_nothing();
+    lawful_clashes_are_real();
+    lawful_reads_one_stream();
+}
+
+/// Proves that the entry of a record in a lawful trace names F_CLASH exactly if the record carries a
+/// fragment that no earlier rule drops, and that has, at an offset of its datagram, another octet
+/// than a fragment of an earlier record, which is still held.
+pub fn lawful_fragment_clashes_are_real()
+    ensures { LawfulFragmentClashesAreReal }
+{}
+
+/// Proves that the datagram that a fragment completes in a lawful trace is made of it and of held
+/// fragments of the same datagram, each of which an earlier record brought.
+pub fn lawful_joins_held()
+    ensures { LawfulJoinsHeld }
+{}
+
+/// Proves of each lawful trace, before the first record and after each: if each line so far that is
+/// inbound or has no side is `pass`, the recorded packets that go inwards are those that were
+/// written, so what receivers of the written packets read, receivers of the recorded ones read. The
+/// same of the records and eras of a pair of addresses; each era is of one.
+pub fn unchanged_traces_were_read_so()
+    ensures { LawfulWasReadSo }
+{
+    datagrams_are_known();
+    packets_are_its_own();
+    items_are_certain();
+    lawful_calls_are_made();
+    lawful_keeps_clean();
+    lawful_agrees();
+    lawful_reads_one_stream();
+    lawful_misses_nothing();
+}
+
+/// Proves of any two eras of a lawful trace: if all that was written inwards in the first is
+/// acknowledged, and the base of the second is not before that, no octet of the second is at an
+/// offset that a receiver has read in the first. If besides no FIN was written inwards in the first
+/// and no SYN in the second, both are read as one era.
+pub fn lawful_eras_go_on()
+    ensures { LawfulErasGoOn }
+{
+    lawful_is_emitted();
+    eras_are_read_as_one();
 }

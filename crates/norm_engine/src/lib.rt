@@ -9,8 +9,15 @@
 //! that the rules make of its segments. In it each clean record has exactly one frame with its
 //! payload, octet for octet if the verdict is pass; at each history nothing exceeds the settings,
 //! and with cells for the quota of each era T_ROOM drops nothing; and in each era all receivers
-//! agree, also across reassembly. The laws on traces assume records of octets and at most 254
-//! routers; `bridge_run` proves both of each run.
+//! agree, also across reassembly, and read parts of one stream, from whichever offset each starts.
+//! Nothing is invented: each octet of an era's stream, and its end, was brought by the very record
+//! that added it. An entry names T_CLASH exactly if its record is written, has neither SYN nor RST,
+//! and has, at an offset at or past Acked, another octet than the one written first there. It names
+//! F_CLASH exactly if its record carries a fragment, which no rule tested before drops, with another
+//! octet than a held one. Packets that norm passed unchanged were read as they were recorded, in all
+//! or between one pair of addresses, and two eras are read as one if the second goes on where the
+//! first ended. The laws on traces assume records of octets and at most 254 routers; `bridge_run`
+//! proves both of each run.
 #![tactic(auto)]
 
 pub mod engine;

@@ -50,15 +50,15 @@ pub record Below : Type 0 where
   pub cleans : CleansOctets
 
 -- The era in which a segment that no rule drops is written: one that it begins, of which nothing was written, or the live one.
-data Enters (v : View) (w : Written) (ws : List Written) : Type 0 where
+pub data Enters (v : View) (w : Written) (ws : List Written) : Type 0 where
   begun : (n : ℕ) → begun_with v w ≡ Some n → ws ≡ [] → Enters v w ws
   within : (n : ℕ) → v.era ≡ Some n → begun_with v w ≡ None → v.segments ≡ ws → Enters v w ws
 
 -- what is written to one side
-abbrev written : Datagram → List Packet → List Written
+abbrev pub written : Datagram → List Packet → List Written
 written d packets = map (λ p. read (goes_in d.side) p.octets) packets
 
-some_none : {n : ℕ} → None ≡ Some n → ⊥
+pub some_none : {n : ℕ} → None ≡ Some n → ⊥
 some_none e = cc
 
 -- one that goes outwards
@@ -91,10 +91,10 @@ passes_cold b settings v d ws h side none (begun n begins empty) =
     (marked_in b settings v d ws [] h side (called_marked v w side asked) (cold_stream v w none) (fixes_base ws d.octets (ap base_of empty)) tt)
 
 -- the rules on its era hold of none that passes
-passed_rows : (settings : PlainSettings) (v : View) (d : Datagram) → goes_in d.side ≡ true → dropped_by settings v d ≡ None → AllByRecursion (λ r. holds_era settings v d r ≡ false) era_rows
+pub passed_rows : (settings : PlainSettings) (v : View) (d : Datagram) → goes_in d.side ≡ true → dropped_by settings v d ≡ None → AllByRecursion (λ r. holds_era settings v d r ≡ false) era_rows
 passed_rows settings v d side none = none_found (holds_era settings v d) era_rows (ap (λ b. cond b (find (holds_era settings v d) era_rows) None) (sym side) ∙ none)
 
-live_row : (v : View) (row : Bool) (n : ℕ) → v.era ≡ Some n → (is_live v && row) ≡ false → row ≡ false
+pub live_row : (v : View) (row : Bool) (n : ℕ) → v.era ≡ Some n → (is_live v && row) ≡ false → row ≡ false
 live_row v row n live e = sym (ap (λ o. is_some o && row) live) ∙ e
 
 -- none reopens where none begins
@@ -107,6 +107,13 @@ left_false : (a b : Bool) → (a || b) ≡ false → a ≡ false
 left_false true b e = cc
 left_false false b e = refl
 
+-- with SYN, RST is not set
+pub no_rst : (syn fin rst ack : Bool) → syn ≡ true → tcp.go_together syn fin rst ack ≡ true → rst ≡ false
+no_rst true true rst ack e legal = cc
+no_rst true false true ack e legal = cc
+no_rst true false false ack e legal = refl
+no_rst false fin rst ack e legal = cc
+
 -- a call of a live era
 passes_call : Below → (settings : PlainSettings) (v : View) (d : Datagram) (ws : List Written) (n : ℕ) → IsSegment settings d → goes_in d.side ≡ true → v.era ≡ Some n → dropped_by settings v d ≡ None
     → tcp.has_syn (segment_in d).flags ≡ true → Enters v (segment_in d) ws → AreEmitted ws (written d (packets_passed settings v d (mended_by settings v d)))
@@ -117,12 +124,6 @@ passes_call b settings v d ws n h side live none syn enters =
     subst (λ ps. AreEmitted ws (written d ps)) (sym (packets_live settings v d (mended_by settings v d) n live (no_rst (tcp.has_syn w.flags) (tcp.has_fin w.flags) (tcp.has_rst w.flags) (tcp.has_ack w.flags) syn h.legal)))
     (marked_in b settings v d ws [] h side (syn_marked w syn) (call_stream v w n live side syn) (λ _. based stray enters) tt)
   where
-    no_rst : (syn fin rst ack : Bool) → syn ≡ true → tcp.go_together syn fin rst ack ≡ true → rst ≡ false
-    no_rst true true rst ack e legal = cc
-    no_rst true false true ack e legal = cc
-    no_rst true false false ack e legal = refl
-    no_rst false fin rst ack e legal = cc
-
     based : era.t_syn v.segments (segment_in d) ≡ false → Enters v (segment_in d) ws → base_of (ws ++ bare_read d.octets ∷ []) ≡ Some (((segment_in d).seq + 1) % 2 ^ 32)
     based stray (begun m some empty) = fixes_base ws d.octets (ap base_of empty) syn
     based stray (within m is none same) =
@@ -197,7 +198,7 @@ none_to_come settings (c ∷ cs) made era above =
     ap₂ (λ a b. a ++ b) (none_to_come settings cs made.1 era (omega arith)) (unwritten era c none)
 
 -- the era of a segment that no rule drops
-enters_of : (settings : PlainSettings) (cs : List Call) (d : Datagram) (era : ℕ) → AreMade settings cs → option_or (begun_with (view_of settings cs d) (segment_in d)) (view_of settings cs d).era ≡ Some era
+pub enters_of : (settings : PlainSettings) (cs : List Call) (d : Datagram) (era : ℕ) → AreMade settings cs → option_or (begun_with (view_of settings cs d) (segment_in d)) (view_of settings cs d).era ≡ Some era
     → Enters (view_of settings cs d) (segment_in d) (segments era cs)
 enters_of settings cs d era made is = by (begun_with v (segment_in d)) refl is
   where
@@ -219,7 +220,7 @@ enters_of settings cs d era made is = by (begun_with v (segment_in d)) refl is
         begun n begins (none_to_come settings cs made era (omega (arith, number, here)))
     by None begins e = within era e begins (same (live cs (key_of d)) e)
 
-named_era : (era : ℕ) (o : Option ℕ) → is_era era o ≡ true → o ≡ Some era
+pub named_era : (era : ℕ) (o : Option ℕ) → is_era era o ≡ true → o ≡ Some era
 named_era era None e = absurd (false≢true e)
 named_era era (Some n) e = let same : n ≡ era = grind (arith, e) in ap Some same
 

@@ -66,7 +66,7 @@ outward_emitted cleans same settings ws d named h out =
     small (rule ∷ more) = subst (λ n. n < 2 ^ 16) (sym (ap (λ b. tcp.window (cond b (segment_octets (segment_anew ws d)) (sum_mended d))) out ∙ mends)) own
 
 -- where SYN or RST is set, FIN is not
-no_fin : (syn fin rst ack : Bool) → tcp.go_together syn fin rst ack ≡ true → (syn || rst) ≡ true → fin ≡ false
+pub no_fin : (syn fin rst ack : Bool) → tcp.go_together syn fin rst ack ≡ true → (syn || rst) ≡ true → fin ≡ false
 no_fin true true rst ack e marked = cc
 no_fin true false rst ack e marked = refl
 no_fin false true true ack e marked = cc
@@ -148,7 +148,7 @@ silent_emitted before (w ∷ ws) all =
 -- What is emitted of an inbound segment of the stream.
 
 -- the interval that is kept of a segment
-abbrev interval_of : List Written → Written → Interval
+abbrev pub interval_of : List Written → Written → Interval
 interval_of ws w =
     record {
       lo = low_of ws w;
@@ -159,7 +159,7 @@ interval_of ws w =
       end = era.t_end ws w;
     }
 
-kept_of : (ws : List Written) (w : Written) → KeptOf ws w (interval_of ws w)
+pub kept_of : (ws : List Written) (w : Written) → KeptOf ws w (interval_of ws w)
 kept_of ws w = record { spans = record { lo_is = refl; hi_is = refl; fin_is = refl }; below_is = refl; window_is = refl; end_is = refl }
 
 -- an era of which an offset is acknowledged has a base
@@ -180,7 +180,7 @@ end_is_place ws based emitted = by (end_of (base_at ws) ws) (bounded (base_at ws
     by (Some (negsuc n)) lies = absurd lies
 
 -- an element of what a function makes of a range
-range_at : (f : ℕ → ℕ) (from len index octet : ℕ) → slice_get (map f (range_with_len from len)) index ≡ Some octet → f (from + index) ≡ octet
+pub range_at : (f : ℕ → ℕ) (from len index octet : ℕ) → slice_get (map f (range_with_len from len)) index ≡ Some octet → f (from + index) ≡ octet
 range_at f from zero index octet e = cc
 range_at f from (suc len) zero octet e = let same : from + 0 ≡ from = omega arith in ap f same ∙ cc
 range_at f from (suc len) (suc index) octet e = let same : from + suc index ≡ from + 1 + index = omega arith in ap f same ∙ range_at f (from + 1) len index octet e
@@ -218,10 +218,11 @@ inward_few settings v d side = cases (is_live v && era.is_of_stream v.segments (
         let long = those_few (header_mended settings v d) (stream_tests i clash) in
         subst (λ l. length l ≤ 9) (sym (stream_mended settings v d i clash both.0 (of_stream v.segments (segment_in d) both.1) (kept_of v.segments (segment_in d)) refl)) (omega (arith, long, few))
 
-pub stream_emitted : CleansOctets → OffsetsAreRead → AreReadBack → (settings : PlainSettings) (v : View) (d : Datagram) → IsSegment settings d → AreEmitted [] v.segments
+-- what is written of it is the frame of its interval
+pub stream_framed : CleansOctets → OffsetsAreRead → AreReadBack → (settings : PlainSettings) (v : View) (d : Datagram) → IsSegment settings d → AreEmitted [] v.segments
     → is_live v ≡ true → era.is_of_stream v.segments (segment_in d) ≡ true
-    → IsKeptFrame v.segments (read (goes_in d.side) (packet_by settings v.segments d d.fixes (mended_by settings v d)).octets)
-stream_emitted cleans reads back settings v d h emitted live stream =
+    → WritesFrame v.segments (segment_in d) (interval_of v.segments (segment_in d)) (read (goes_in d.side) (packet_by settings v.segments d d.fixes (mended_by settings v d)).octets)
+stream_framed cleans reads back settings v d h emitted live stream =
     let ws = v.segments in
     let w = segment_in d in
     let f = of_stream ws w stream in
@@ -230,4 +231,11 @@ stream_emitted cleans reads back settings v d h emitted live stream =
     let i = interval_of ws w in
     let named = stream_mended settings v d i (clashes ws w) live f (kept_of ws w) refl in
     let frame = writes_frame reads back settings end.0 ws d i (clashes ws w) end.1 f (kept_of ws w) refl (number_fits d (bits settings d h)) (stream_fits_here cleans settings ws d h) _ _ (sym named) in
-    subst (λ b. IsKeptFrame ws (read b (packet_by settings ws d d.fixes (mended_by settings v d)).octets)) (sym f.inward) (kept_frame ws w _ based frame)
+    subst (λ b. WritesFrame ws w i (read b (packet_by settings ws d d.fixes (mended_by settings v d)).octets)) (sym f.inward) frame
+
+pub stream_emitted : CleansOctets → OffsetsAreRead → AreReadBack → (settings : PlainSettings) (v : View) (d : Datagram) → IsSegment settings d → AreEmitted [] v.segments
+    → is_live v ≡ true → era.is_of_stream v.segments (segment_in d) ≡ true
+    → IsKeptFrame v.segments (read (goes_in d.side) (packet_by settings v.segments d d.fixes (mended_by settings v d)).octets)
+stream_emitted cleans reads back settings v d h emitted live stream =
+    let based = acknowledged_based v.segments (and_parts _ (is_acknowledged (state_of v.segments)) stream).1 in
+    kept_frame v.segments (segment_in d) _ based (stream_framed cleans reads back settings v d h emitted live stream)

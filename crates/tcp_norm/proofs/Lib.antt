@@ -19,5 +19,6 @@ pub mod Quotas
 pub mod Packets
 pub mod EmittedSegments
 pub mod EmittedCalls
+pub mod BroughtOctets
 pub mod Payloads
 pub mod HeldBlocks

@@ -24,3 +24,4 @@ pub mod Anews
 pub mod Inwards
 pub mod Resets
 pub mod Rulings
+pub mod Brought

@@ -1,5 +1,6 @@
 //! Laws of calls.
 ghost use Rattle.tcp_norm.specs.Worked.{WorkedRows};
+ghost use Rattle.tcp_norm.specs.Brought.{ClashesAreReal, NewIsBrought, NothingIsInvented};
 ghost use Rattle.tcp_norm.specs.Laws.{OthersStay, StreamsAreWritten};
 ghost use Rattle.tcp_norm.specs.Lives.{LivesAreLast, FlowsAreBounded};
 ghost use Rattle.tcp_norm.specs.Segments.{CallsAreEmitted, CleanKeepsPayload, HeldIsBounded, PacketsAreItsOwn, PacketsArePlain, ProbesAreSilent, QuotaLeavesRoom};
@@ -108,4 +109,29 @@ pub fn quota_leaves_room()
     ensures { QuotaLeavesRoom }
 {
     held_is_bounded();
+}
+
+/// Proves that each octet of an era's stream, and its end, was brought by a datagram that went
+/// inwards and was written in the era, and whose own segment has it at this offset.
+pub fn octets_are_brought()
+    ensures new { NewIsBrought }
+    ensures all { NothingIsInvented }
+{
+    intervals_fit();
+    emitted_joins();
+    written_remains();
+    offsets_are_read();
+    segments_are_read_back();
+    mended_say_the_same();
+    options_are_cleaned();
+    calls_are_emitted();
+}
+
+/// Proves that T_CLASH applies to a datagram that no rule drops exactly if it has neither SYN nor RST,
+/// and has, at an offset at or past Acked, another octet than the era's stream.
+pub fn clashes_are_real()
+    ensures { ClashesAreReal }
+{
+    intervals_fit();
+    calls_are_emitted();
 }

@@ -17,7 +17,9 @@
 //! each packet sent is a packet of its datagram, and inwards it is plain; a probe for a dropped
 //! segment has no octet, SYN or FIN; if no rule touches the payload, exactly one packet is sent,
 //! with that payload; no more blocks hold octets than there are cells, and no more of one era than
-//! the quota.
+//! the quota. Each octet of an era's stream, and its end, was brought by a datagram written inwards
+//! in the era. T_CLASH applies to a datagram that no rule drops exactly if it has neither SYN nor
+//! RST, and has, at an offset at or past Acked, another octet than the era's stream.
 #![tactic(auto)]
 
 mod arrival;

@@ -1,5 +1,5 @@
 use Rattle.both_sides.proofs.Frames.{plain_written, short_written, clean_written, each_goes, none_long}
-use Rattle.both_sides.proofs.Receivers.{StreamLaws, agree_as_written, always_misses}
+use Rattle.both_sides.proofs.Receivers.{StreamLaws, agree_as_written, always_misses, reads_as_written}
 use Rattle.both_sides.proofs.laws.lawful_is_written_soundly.Goals as goal
 
 pub returns : goal.returns
@@ -14,12 +14,16 @@ returns c settings link trace range sound octets =
       cut = c.cut_packets_tell_one_stream.ensures.stream;
       cut_acks = c.cut_packets_tell_one_stream.ensures.acks;
       members = c.members_agree.ensures;
+      of = c.lawful_reads_one_stream.ensures.frames;
+      cut_of = c.cut_packets_are_of_the_stream.ensures;
+      parts = c.members_read_parts.ensures;
       monitors = c.monitors_miss_nothing.ensures;
     } in
     record {
       clean_kept = clean_written c.segments_carry_the_payload.ensures plain.whole settings link trace range.mtu each octets (c.lawful_keeps_clean.ensures settings link trace sound);
       within = c.lawful_is_within.ensures settings link trace sound;
       agree = agree_as_written streams settings link trace range.mtu sound each octets;
+      reads = reads_as_written streams settings link trace range.mtu sound each octets;
       monitor = always_misses streams settings link trace range.mtu sound each octets;
       none_long = none_long c.segments_fit.ensures.all plain.whole settings.mtu link trace range.mtu each octets;
       plain = plain_written c.segments_are_plain.ensures plain.whole settings.mtu settings.hops link trace range.mtu each octets (c.lawful_is_plain_inwards.ensures settings link trace sound);

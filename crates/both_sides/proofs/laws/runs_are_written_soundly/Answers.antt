@@ -8,6 +8,7 @@ returns c = soundly (record {
   within = c.lawful_is_within.ensures;
   through = c.frames_go_through.ensures;
   agree = c.both_agree.ensures;
+  reads = c.lawful_reads_one_stream.ensures.receivers;
   misses = c.lawful_misses_nothing.ensures;
   plain = c.lawful_is_plain_inwards.ensures;
   short = c.lawful_is_short.ensures;
