@@ -135,6 +135,24 @@ handing_broke others offset a b untold same_capture same_report = record {
   answered = refl;
 }
 
+-- the report could not be flushed, after the capture
+pub report_handing_broke : (offset : ℕ) (a b : Sinks) → b.report.octets ≡ None → b.capture.octets ≡ a.capture.octets → b.report.octets ≡ a.report.octets
+    → BreaksOff [] (capture_hands_on ∷ report_hands_on ∷ []) offset stops.Report a b
+report_handing_broke offset a b untold same_capture same_report = record {
+  fault = faults.Report;
+  broke = record {
+    whole = capture_hands_on ∷ [];
+    failed = report_hands_on;
+    others = [];
+    are = refl;
+    can_fail = untold;
+    answered = refl;
+    count = 0;
+    given = record { capture = stays a.capture.octets b.capture.octets same_capture; report = stays a.report.octets b.report.octets same_report };
+  };
+  answered = refl;
+}
+
 -- the report failed at octets after the capture was flushed
 pub last_broke : (y : List ℕ) (others : List Output) (offset : ℕ) (a b : Sinks) → b.capture.octets ≡ a.capture.octets → AppendsPart a.report.octets b.report.octets y
     → BreaksOff [] (capture_hands_on ∷ to_report y ∷ others) offset stops.Report a b
@@ -350,6 +368,20 @@ handing whole failed others e =
     elim (fails report_hands_on [] whole failed others e) [
       | now w f ↦ (w, f)
       | later more w e' ↦ absurd (none_fails more failed others e')
+    ]
+
+-- the report could not be flushed, after the capture
+pub report_handing_fails : (behind : List Output) (offset : ℕ) (a c : Sinks) → BreaksOff behind (capture_hands_on ∷ report_hands_on ∷ []) offset stops.Report a c
+    → Appends a.capture.octets c.capture.octets (capture_part behind) × (c.report.octets ≡ None)
+report_handing_fails behind offset a c p =
+    elim (fails capture_hands_on (report_hands_on ∷ []) p.broke.whole p.broke.failed p.broke.others p.broke.are) [
+      | now w f ↦ absurd (apart offset (sym (answered _ _ offset _ a c p ∙ ap (λ o. stop_at o offset) f)))
+      | later more w e ↦
+          let last = handing more p.broke.failed p.broke.others e in
+          let g = given_up_to behind p.broke.whole (capture_hands_on ∷ []) p.broke.failed report_hands_on p.broke.count a c (w ∙ ap (λ m. capture_hands_on ∷ m) last.0) last.1 p.broke.given in (
+            subst (Appends a.capture.octets c.capture.octets) (append-nil (capture_part behind)) g.0,
+            subst (λ o. CanFail o c) last.1 p.broke.can_fail,
+          )
     ]
 
 -- the report failed at octets after an output for the capture, or when it was flushed

@@ -4,11 +4,13 @@ use Rattle.std.proofs.lemmas.Bool.Decides.{nat_tests}
 use Rattle.std.specs.Io.KnownBytes.{Appends}
 use Rattle.pcap_file.specs.declared.head.Head.{Head}
 use Rattle.capture_input.specs.declared.input.Input.{Input}
-use Rattle.capture_input.specs.Inputs.{Walk, packets_in, Took, TookAll, TakenWhole}
-use Rattle.capture_input.specs.Reading.{Behind, head_in, asked_in}
+use Rattle.capture_input.specs.declared.input.Input.TheVariants.{Classic, Sections}
+use Rattle.capture_input.specs.Inputs.{Walk, records, blocks, packets_in, place_behind, EndsAtNewest, Took, TookAll, TakenWhole}
+use Rattle.capture_input.specs.Reading.{Behind, head_in, asked_in, place_in}
 use Rattle.norm_settings.specs.Settings.{PlainSettings, AreInRange, GoTogether}
 use Rattle.both_sides.specs.declared.engines.Engines.{Engines}
-use Rattle.both_sides.specs.Outputs.{Given}
+use Rattle.edge_io.specs.Seen.{Seen}
+use Rattle.both_sides.specs.Outputs.{Given, capture_part, report_part}
 use Rattle.both_sides.specs.Puts.{count_put, puts, Put, next_put, put_outputs}
 use Rattle.both_sides.specs.Relays.{StandsForRun, link_of, settings_of, is_full_of, records_of}
 use Rattle.both_sides.specs.Runs.{LawfulRun, RunHasNoSide, RunHasOctets, RunTrace, packets_of, empty_run, next_run, one, two}
@@ -25,15 +27,17 @@ use Rattle.norm_engine.specs.Items.{Item, packets}
 use Rattle.both_sides.specs.declared.engines.Engines.TheVariants.{One, Two}
 use Rattle.both_sides.specs.declared.fault.RelayFault.{RelayFault}
 use Rattle.both_sides.specs.RunLaws.{GoesOn, RunIsWrittenSoundly, RunsAreWrittenSoundly, RunsBegin, RunsGoOn}
+use Rattle.both_sides.specs.Brought.{RunIsBrought, RunsAreBrought}
 use Rattle.both_sides.specs.Outputs as relayed
 use Rattle.both_sides.specs.Steps.{IsWritten}
 use Rattle.bridge_run.specs.Moments.{Moment, NoneRose}
-use Rattle.bridge_run.specs.Outputs.{outputs_of, BreaksOff, end_outputs, stop_by}
+use Rattle.bridge_run.specs.Outputs.{outputs_of, BreaksOff, end_outputs, hand_outputs, stop_by}
 use Rattle.bridge_run.specs.Run.{IsFew, Begun, Ended}
-use Rattle.bridge_run.specs.Promises.{HaveTimes, CleanKeepPayload, FramesFit, InwardArePlain, MonitorMissesNothing, ReceiversAgree, StateIsBounded}
+use Rattle.bridge_run.specs.Promises.{HaveTimes, CleanKeepPayload, FramesFit, InwardArePlain, MonitorMissesNothing, ReceiversAgree, ReceiversReadOneStream, StateIsBounded}
 use Rattle.bridge_run.specs.declared.stop.Stop.{Stop}
 use Rattle.bridge_run.specs.Theorem.{Normalized}
-use Rattle.bridge_run.specs.Stopped.{StopsAtEnd, StopsAtPacket, StopsAtRecord, StopsAtTooMany}
+use Rattle.bridge_run.specs.Stopped.{StopsAtEnd, StopsAtPacket, StopsAtRecord, StopsAtTooMany, StopsBetween}
+use Rattle.bridge_run.specs.Ends.{Unchanged}
 use Rattle.bridge_run.proofs.Outputs.{capture_part-append, report_part-append, given_after, broke_behind, capture_is, report_is}
 
 -- The state of a run between records. Nothing is claimed of octets that are not known.
@@ -62,6 +66,7 @@ pub record Going (settings : PlainSettings) (head : Head) (before now : Moment) 
   pub engine_link : link_of engines ≡ head.link
   pub input_head : head_in input ≡ head
   pub behind : Behind input settings.inside walk
+  pub ends : EndsAtNewest walk
   pub frames_are : frames ≡ count_put (puts settings head.link run)
   pub few : frames ≤ 255 * length (packets_of run)
 
@@ -72,6 +77,10 @@ module _ (settings : PlainSettings) (link : Link) where
   agree_in : (run : RunTrace) → RunIsWrittenSoundly settings link run → ReceiversAgree settings link run
   agree_in (one trace) sound = sound.agree
   agree_in (two trace mirror) sound = (sound.agree, sound.agree_behind, sound.through)
+
+  reads_in : (run : RunTrace) → RunIsWrittenSoundly settings link run → ReceiversReadOneStream settings link run
+  reads_in (one trace) sound = sound.reads
+  reads_in (two trace mirror) sound = (sound.reads, sound.reads_behind)
 
   monitor_in : (run : RunTrace) → RunIsWrittenSoundly settings link run → MonitorMissesNothing settings link run
   monitor_in (one trace) sound = sound.monitor
@@ -148,6 +157,13 @@ none_rose_after a b c p q = record {
   sinks = record { capture = q.sinks.capture ∙ p.sinks.capture; report = q.sinks.report ∙ p.sinks.report };
 }
 
+-- the offset of the next record or block is the one behind the entries read
+place_of : (input : Input) (inside : Option (List ℕ)) (walk : Walk) → Behind input inside walk → place_in input ≡ place_behind walk
+place_of (Classic head reader) inside (records packets) behind = behind.place
+place_of (Sections reader) inside (blocks steps) behind = behind.place
+place_of (Classic head reader) inside (blocks steps) behind = absurd behind
+place_of (Sections reader) inside (records packets) behind = absurd behind
+
 -- The run begins after the head.
 pub begins : RunsBegin → (settings : PlainSettings) (head : Head) (a b : Moment) (engines : Engines) (input : Input) → head ≡ head_in input → settings_of engines ≡ settings → link_of engines ≡ head.link
     → StandsForRun engines (empty_run settings.both) → Begun settings input a b → Going settings head a b engines input 0
@@ -172,6 +188,7 @@ begins law settings head a b engines input is set linked stands p =
       engine_link = linked;
       input_head = sym is;
       behind = p.behind;
+      ends = p.ends;
       frames_are = sym (ap count_put first.put);
       few = omega arith;
     }
@@ -183,6 +200,52 @@ module _ (settings : PlainSettings) (head : Head) (a b : Moment) (engines : Engi
 
   put_is : (p : Packet) → next_put (settings_of engines) (link_of engines) going.run p ≡ next_put settings head.link going.run p
   put_is p = ap₂ (λ s l. next_put s l going.run p) going.engine_settings going.engine_link
+
+  -- what was written was handed on before the next record
+  pub handed : (c : Moment) → c.source ≡ b.source → Unchanged b.sinks c.sinks → Going settings head a c engines input frames
+  handed c same kept =
+      let now = going.so_far in
+      record {
+        walk = going.walk;
+        run = going.run;
+        so_far = record {
+          lawful = now.lawful;
+          octets = now.octets;
+          times = now.times;
+          sideless = now.sideless;
+          few = now.few;
+          took = subst (λ (s : Seen). Took settings.inside a.source.octets s.octets head going.walk) (sym same) now.took;
+          packets_are = now.packets_are;
+          given = record {
+            capture = subst (λ s. Appends a.sinks.capture.octets s (capture_part (outputs_of settings.both head (puts settings head.link going.run)))) (sym kept.capture) now.given.capture;
+            report = subst (λ s. Appends a.sinks.report.octets s (report_part (outputs_of settings.both head (puts settings head.link going.run)))) (sym kept.report) now.given.report;
+          };
+          none_rose = none_rose_after a b c now.none_rose (record { source = ap (λ (s : Seen). s.faults) same; sinks = kept.none_rose });
+        };
+        stands = going.stands;
+        engine_settings = going.engine_settings;
+        engine_link = going.engine_link;
+        input_head = going.input_head;
+        behind = going.behind;
+        ends = going.ends;
+        frames_are = going.frames_are;
+        few = going.few;
+      }
+
+  -- a sink could not be flushed before the next record
+  pub stops_between : (c : Moment) (offset : ℕ) (stop : Stop) → c.source ≡ b.source → offset ≡ place_in input → BreaksOff [] hand_outputs offset stop b.sinks c.sinks → StopsBetween settings stop a c
+  stops_between c offset stop same place broke = record {
+    head = head;
+    run = going.run;
+    lawful = going.so_far.lawful;
+    few = going.so_far.few;
+    walk = going.walk;
+    packets_are = going.so_far.packets_are;
+    ends = going.ends;
+    took = subst (λ (s : Seen). Took settings.inside a.source.octets s.octets head going.walk) (sym same) going.so_far.took;
+    broke = broke_behind (outputs_of settings.both head (puts settings head.link going.run)) _ _ stop a.sinks b.sinks c.sinks going.so_far.given
+        (subst (λ o. BreaksOff [] hand_outputs o stop b.sinks c.sinks) (place ∙ place_of input settings.inside going.walk going.behind) broke);
+  }
 
   -- one more packet was taken
   module _ (c : Moment) (input' : Input) (given : Record) (gives : GivesPacket input input' settings.inside going.walk b.source.octets c.source.octets given) where
@@ -266,6 +329,7 @@ module _ (settings : PlainSettings) (head : Head) (a b : Moment) (engines : Engi
               engine_link = linked ∙ going.engine_link;
               input_head = gives.head ∙ going.input_head;
               behind = gives.behind;
+              ends = gives.ends;
               frames_are = ap₂ (λ x y. x + y) going.frames_are out.whole.frames_are ∙ sym (ap count_put step.put);
               few = omega (arith, going.few, short, size);
             }
@@ -306,12 +370,13 @@ module _ (settings : PlainSettings) (head : Head) (a b : Moment) (engines : Engi
     all_taken = whole settings.inside a.source.octets b.source.octets c.source.octets head going.walk ends.farther going.so_far.took ends.whole took_end
 
     -- the last line is written
-    pub normalized : RunsAreWrittenSoundly → AreInRange settings → GoTogether settings → Ended count frames b.sinks c.sinks
+    pub normalized : RunsAreWrittenSoundly → RunsAreBrought → AreInRange settings → GoTogether settings → Ended count frames b.sinks c.sinks
         → Normalized settings a.source.octets c.source.octets a.sinks.capture.octets c.sinks.capture.octets a.sinks.report.octets c.sinks.report.octets
-    normalized soundly range together ended =
+    normalized soundly traced range together ended =
         let run = going.run in
         let now = going.so_far in
         let sound : RunIsWrittenSoundly settings head.link run = soundly settings head.link run range together now.lawful now.octets now.sideless in
+        let brought : RunIsBrought settings head.link run = traced settings head.link run range.hops now.lawful now.octets in
         let out = puts settings head.link run in
         let before = outputs_of settings.both head out in
         let all : Given (before ++ end_outputs count frames) a.sinks c.sinks = given_after _ _ a.sinks b.sinks c.sinks now.given ended.given in
@@ -320,9 +385,14 @@ module _ (settings : PlainSettings) (head : Head) (a b : Moment) (engines : Engi
         record {
           head = head;
           run = run;
+          range = range;
           agree = agree_in settings head.link run sound;
+          reads = reads_in settings head.link run sound;
           monitor = monitor_in settings head.link run sound;
           lawful = now.lawful;
+          brought = brought.brought;
+          clashes = brought.clashes;
+          fragment_clashes = brought.fragment_clashes;
           within = within_in settings head.link run sound;
           clean = clean_in settings head.link run sound;
           plain = plain_in settings head.link run sound;

@@ -27,7 +27,7 @@ use Rattle.bridge_run.specs.Outputs.{first_outputs, outputs_of}
 use Rattle.bridge_run.specs.Stops.{FirstFault, Told, fault_kind, status_of, stop_line, memory_line}
 use Rattle.bridge_run.specs.Stopped.{Stands, Faulty, Unwritten, StopsAtHead, StopsAtRecord, StopsAtTooMany, Stopped, StoppedUnder, LoadStopped, Finishes, SaysOnly}
 use Rattle.bridge_run.specs.Rows.{Says, GivenUpTo, stop_of, capture_octets, report_octets, EndsAtHead, EndsAtRecord, EndsAtFault, EndsByTooMany, EndsFaulty, EndsCut, EndsUnread, EndsUnwritten, EndsUntold, EndsRefused, EndsSummed, EndsSummedInPart, UnderWords, UnderLoad}
-use Rattle.bridge_run.proofs.Outputs.{capture_is, report_is, no_capture, capture_fails, first_fails, handing_fails, no_report, line_fails, nothing, handing}
+use Rattle.bridge_run.proofs.Outputs.{capture_is, report_is, no_capture, capture_fails, first_fails, handing_fails, report_handing_fails, no_report, line_fails, nothing, handing}
 use Rattle.bridge_run.proofs.Statuses.{known_of}
 
 -- a line that was given after octets
@@ -173,11 +173,27 @@ module _ (settings : PlainSettings) (b a n : Moment) where
         report = says (report_octets settings.both older) (stop_of kinds.Capture (newest_place p.walk)) b.sinks.report a.sinks.report n.sinks.report (report_given p.head older f.report) same
             (subst (λ o. Told a.sinks.report.octets n.sinks.report.octets a.sinks.report.faults n.sinks.report.faults (stop_of kinds.Capture o)) f.here told);
       }))
-  unwritten_row offset behind (inr (inr (inr p))) same told =
+  unwritten_row offset behind (inr (inr (inr (inl p)))) same told =
+      let out = puts settings p.head.link p.run in
+      let f = handing_fails (outputs_of settings.both p.head out) (report_hands_on ∷ []) tt (place_behind p.walk) offset b.sinks a.sinks p.broke in
+      inr (inr (inl (record {
+        head = p.head;
+        run = p.run;
+        lawful = p.lawful;
+        few = p.few;
+        walk = p.walk;
+        packets_are = p.packets_are;
+        ends = p.ends;
+        took = subst (λ (s : Seen). Took settings.inside b.source.octets s.octets p.head p.walk) (sym behind.source) p.took;
+        untold = told_none b.sinks.capture.octets a.sinks.capture.octets _ p.broke.broke.given.capture f.untold;
+        report = says (report_octets settings.both out) (stop_of kinds.Capture (place_behind p.walk)) b.sinks.report a.sinks.report n.sinks.report (report_given p.head out f.report) same
+            (subst (λ o. Told a.sinks.report.octets n.sinks.report.octets a.sinks.report.faults n.sinks.report.faults (stop_of kinds.Capture o)) f.here told);
+      })))
+  unwritten_row offset behind (inr (inr (inr (inr p)))) same told =
       let out = puts settings p.head.link p.run in
       let line = last_text (last.End (length (packets_of p.run)) (count_put out)) in
       let f = handing_fails (outputs_of settings.both p.head out) (to_report line ∷ report_hands_on ∷ []) tt (place_behind p.walk) offset b.sinks a.sinks p.broke in
-      inr (inr (record {
+      inr (inr (inr (record {
         head = p.head;
         run = p.run;
         lawful = p.lawful;
@@ -189,7 +205,7 @@ module _ (settings : PlainSettings) (b a n : Moment) where
         untold = told_none b.sinks.capture.octets a.sinks.capture.octets _ p.broke.broke.given.capture f.untold;
         report = says (report_octets settings.both out) (stop_of kinds.Capture (place_behind p.walk)) b.sinks.report a.sinks.report n.sinks.report (report_given p.head out f.report) same
             (subst (λ o. Told a.sinks.report.octets n.sinks.report.octets a.sinks.report.faults n.sinks.report.faults (stop_of kinds.Capture o)) f.here told);
-      }))
+      })))
 
   -- the report failed
 
@@ -223,11 +239,26 @@ module _ (settings : PlainSettings) (b a n : Moment) where
         capture = subst (λ s. Appends b.sinks.capture.octets s (capture_octets p.head (out ∷ older))) (sym behind.capture) (subst (Appends b.sinks.capture.octets a.sinks.capture.octets) all f.0);
         report = quiet (report_octets settings.both older) line b.sinks.report a.sinks.report n.sinks.report (subst (λ l. GivenUpTo l line b.sinks.report.octets a.sinks.report.octets) (report_is settings.both p.head older) f.1) told;
       }))
-  untold_row behind (inr (inr (inr p))) told =
+  untold_row behind (inr (inr (inr (inl p)))) told =
+      let out = puts settings p.head.link p.run in
+      let f = report_handing_fails (outputs_of settings.both p.head out) (place_behind p.walk) b.sinks a.sinks p.broke in
+      inr (inr (inl (record {
+        head = p.head;
+        run = p.run;
+        lawful = p.lawful;
+        few = p.few;
+        walk = p.walk;
+        packets_are = p.packets_are;
+        ends = p.ends;
+        took = subst (λ (s : Seen). Took settings.inside b.source.octets s.octets p.head p.walk) (sym behind.source) p.took;
+        capture = capture_given p.head out f.0 behind;
+        untold = told_none b.sinks.report.octets a.sinks.report.octets _ p.broke.broke.given.report f.1;
+      })))
+  untold_row behind (inr (inr (inr (inr p)))) told =
       let out = puts settings p.head.link p.run in
       let line = last_text (last.End (length (packets_of p.run)) (count_put out)) in
       let f = line_fails (outputs_of settings.both p.head out) (report_hands_on ∷ []) capture_hands_on [] line (place_behind p.walk) b.sinks a.sinks (λ more. refl) (λ more. refl) refl handing p.broke in
-      inr (inr (record {
+      inr (inr (inr (record {
         head = p.head;
         run = p.run;
         lawful = p.lawful;
@@ -238,7 +269,7 @@ module _ (settings : PlainSettings) (b a n : Moment) where
         taken = subst (λ (s : Seen). TakenWhole b.source.octets s.octets) (sym behind.source) p.taken;
         capture = capture_given p.head out (subst (Appends b.sinks.capture.octets a.sinks.capture.octets) (append-nil (capture_part (outputs_of settings.both p.head out))) f.0) behind;
         report = quiet (report_octets settings.both out) line b.sinks.report a.sinks.report n.sinks.report (subst (λ l. GivenUpTo l line b.sinks.report.octets a.sinks.report.octets) (report_is settings.both p.head out) f.1) told;
-      }))
+      })))
 
   -- the definition of a status between 0 and 8
   abbrev pub RowAt : (status : ℕ) → Type 0

@@ -1,11 +1,11 @@
 -- How the parts of a run over a capture end, before a line reports why it stopped (this project's profile).
-use Rattle.std.specs.Prelude.{ℕ, List, [], Result, OnOk, IfErr, IfOk}
+use Rattle.std.specs.Prelude.{◌≡◌, ℕ, [], Result, OnOk, IfErr, IfOk}
 use Rattle.norm_settings.specs.Settings.{PlainSettings}
 use Rattle.capture_input.specs.declared.input.Input.{Input}
-use Rattle.both_sides.specs.Sinks.{Sinks}
+use Rattle.both_sides.specs.Sinks.{Sinks, NoSinkRose}
 use Rattle.bridge_run.specs.declared.stop.Stop.{Stop}
 use Rattle.bridge_run.specs.Moments.{Moment}
-use Rattle.bridge_run.specs.Outputs.{BreaksOff, end_outputs}
+use Rattle.bridge_run.specs.Outputs.{BreaksOff, end_outputs, hand_outputs}
 use Rattle.bridge_run.specs.Run.{Begun, Ended}
 use Rattle.bridge_run.specs.Stops.{FirstFault, FirstSinkFault}
 use Rattle.bridge_run.specs.Stopped.{Finishes, Stands}
@@ -24,6 +24,22 @@ pub record Ends {T : Type 0} (settings : PlainSettings) (result : Result T Stop)
 pub record Begins (settings : PlainSettings) (result : Result Input Stop) (before now : Moment) : Type 0 where
   pub begun : IfOk result (λ input. Begun settings input before now)
   pub stopped : IfErr result (λ stop. StopsAt settings stop before now)
+
+-- both sinks are as they were
+pub record Unchanged (before now : Sinks) : Type 0 where
+  pub capture : now.capture.octets ≡ before.capture.octets
+  pub report : now.report.octets ≡ before.report.octets
+  pub none_rose : NoSinkRose before now
+
+-- a sink could not be flushed before a record, at this offset
+pub record StopsHanding (offset : ℕ) (stop : Stop) (before now : Sinks) : Type 0 where
+  pub broke : BreaksOff [] hand_outputs offset stop before now
+  pub first : FirstSinkFault stop before now
+
+-- Both sinks hold what they held, flushed or not; or one could not be flushed.
+pub record HandsOver {T : Type 0} (offset : ℕ) (result : Result T Stop) (before now : Sinks) : Type 0 where
+  pub handed : OnOk result (Unchanged before now)
+  pub stopped : IfErr result (λ stop. StopsHanding offset stop before now)
 
 -- an output at the end failed, at this offset
 pub record StopsClosing (records frames offset : ℕ) (stop : Stop) (before now : Sinks) : Type 0 where

@@ -10,3 +10,4 @@ pub mod Run
 pub mod Stopped
 pub mod Ends
 pub mod Rows
+pub mod Recorded

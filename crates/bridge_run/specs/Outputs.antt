@@ -1,5 +1,5 @@
 -- The outputs of a run over a capture besides those for its records, as one list in the order in which they are written (this project's profile). Lists of
--- outputs for records have the newest at the head.
+-- outputs for records have the newest at the head. The flushes before records are in no such list, since they give a sink nothing: `hand_outputs` names them.
 use Rattle.std.specs.Prelude.{◌≡◌, ℕ, Bool, List, [], ◌∷◌, ◌++◌}
 use Rattle.pcap_file.specs.declared.head.Head.{Head}
 use Rattle.pcap_file.specs.Heads.{head_octets}
@@ -31,6 +31,10 @@ outputs_of both head (put ∷ older) = outputs_of both head older ++ put_outputs
 -- the end of a run: the last line, after the capture and before the report is flushed
 abbrev pub end_outputs : (records frames : ℕ) → List Output
 end_outputs records frames = capture_hands_on ∷ to_report (last_text (End records frames)) ∷ report_hands_on ∷ []
+
+-- The flushes of both sinks before a record. That they are made if the source may wait, and only then, is tested: no definition states it.
+abbrev pub hand_outputs : List Output
+hand_outputs = capture_hands_on ∷ report_hands_on ∷ []
 
 -- the stop of a run if this sink failed, at this offset
 abbrev pub stop_by : RelayFault → (offset : ℕ) → Stop

@@ -4,13 +4,13 @@ use Rattle.std.specs.List.{AllByRecursion}
 use Rattle.wire_base.specs.declared.address.Link.{Link}
 use Rattle.pcap_file.specs.Records.{Packet}
 use Rattle.norm_settings.specs.Settings.{PlainSettings}
-use Rattle.norm_engine.specs.Agreement.{Agree, AtEachHistory, MissesNothing}
+use Rattle.norm_engine.specs.Agreement.{Agree, AtEachHistory, MissesNothing, ReadsOneStream}
 use Rattle.norm_engine.specs.Clean.{CleanIsKept}
 use Rattle.norm_engine.specs.Laws.{IsAlwaysWithin}
 use Rattle.norm_engine.specs.Sending.{ArePlainInwards, AreReadAlike, HasShortFrames}
 use Rattle.both_sides.specs.Laws.{InwardGoesThrough}
 use Rattle.both_sides.specs.Traces.{mirrored}
-use Rattle.both_sides.specs.Cut.{AgreeAsWritten, CleanIsWritten, MissesNothingAsWritten, NoneIsLong, written}
+use Rattle.both_sides.specs.Cut.{AgreeAsWritten, CleanIsWritten, MissesNothingAsWritten, NoneIsLong, ReadsOneStreamAsWritten, written}
 use Rattle.both_sides.specs.Runs.{RunTrace, one, two}
 
 -- In each era any two receivers of the family that start at the same offset deliver streams of which one is a prefix of the other, whichever of the frames
@@ -19,6 +19,12 @@ use Rattle.both_sides.specs.Runs.{RunTrace, one, two}
 abbrev pub ReceiversAgree : PlainSettings → Link → RunTrace → Type 0
 ReceiversAgree settings link (one trace) = AgreeAsWritten settings link trace
 ReceiversAgree settings link (two trace mirror) = Agree settings.hops link trace × Agree settings.hops link mirror × InwardGoesThrough trace mirror
+
+-- In each era with a base every receiver of the family, from whichever offset it starts, reads a part of one stream, whichever of the frames written inwards
+-- reach it in time, how often and in which order. If both sides are protected, that holds of either side, by `InwardGoesThrough` as above.
+abbrev pub ReceiversReadOneStream : PlainSettings → Link → RunTrace → Type 0
+ReceiversReadOneStream settings link (one trace) = ReadsOneStreamAsWritten settings link trace
+ReceiversReadOneStream settings link (two trace mirror) = ReadsOneStream settings.hops link trace × ReadsOneStream settings.hops link mirror
 
 -- Before the first record and after each, and in each era with a base, a monitor that took every frame written inwards so far, kept each octet not yet read and
 -- the FIN, and delivered after each frame all that it could misses nothing: the stream of each receiver of the family that starts at the same offset and hears its

@@ -135,6 +135,20 @@ pub record CaptureEndsInPacket (settings : PlainSettings) (before now : Moment) 
   pub capture : GivenUpTo (capture_octets head (puts settings head.link older)) (put_octets head.order (next_put settings head.link older packet)) before.sinks.capture.octets now.sinks.capture.octets
   pub report : Says (report_octets settings.both (puts settings head.link older)) (stop_of kinds.Capture (newest_place walk)) before.sinks.report now.sinks.report
 
+-- Status 6, between records: a capture that buffers, so that its octets are not known, could not be flushed. Exactly the octets up to the end of the newest
+-- record or block (of the head, if there is no record) were taken. The report was given all lines of records, and the stop at the offset behind it.
+pub record CaptureEndsBetween (settings : PlainSettings) (before now : Moment) : Type 0 where
+  pub head : Head
+  pub run : RunTrace
+  pub lawful : LawfulRun settings head.link run
+  pub few : IsFew settings run
+  pub walk : Walk
+  pub packets_are : packets_in walk ≡ packets_of run
+  pub ends : EndsAtNewest walk
+  pub took : Took settings.inside before.source.octets now.source.octets head walk
+  pub untold : before.sinks.capture.octets ≡ None
+  pub report : Says (report_octets settings.both (puts settings head.link run)) (stop_of kinds.Capture (place_behind walk)) before.sinks.report now.sinks.report
+
 -- Status 6, at the end: a capture that buffers, so that its octets are not known, could not be flushed. All was taken, and the report was given all lines of
 -- records, and the stop at the offset of the end.
 pub record CaptureEndsBehind (settings : PlainSettings) (before now : Moment) : Type 0 where
@@ -150,7 +164,7 @@ pub record CaptureEndsBehind (settings : PlainSettings) (before now : Moment) : 
   pub report : Says (report_octets settings.both (puts settings head.link run)) (stop_of kinds.Capture (place_behind walk)) before.sinks.report now.sinks.report
 
 abbrev pub EndsUnwritten : PlainSettings → (before now : Moment) → Type 0
-EndsUnwritten settings before now = CaptureEndsInHead settings before now ⊎ (CaptureEndsInPacket settings before now ⊎ CaptureEndsBehind settings before now)
+EndsUnwritten settings before now = CaptureEndsInHead settings before now ⊎ (CaptureEndsInPacket settings before now ⊎ (CaptureEndsBetween settings before now ⊎ CaptureEndsBehind settings before now))
 
 -- Status 7, at the first line: nothing was taken, the capture was given nothing, and the report a prefix of that line.
 pub record ReportEndsInFirst (settings : PlainSettings) (before now : Moment) : Type 0 where
@@ -173,6 +187,20 @@ pub record ReportEndsInLine (settings : PlainSettings) (before now : Moment) : T
   pub capture : Appends before.sinks.capture.octets now.sinks.capture.octets (capture_octets head (next_put settings head.link older packet ∷ puts settings head.link older))
   pub report : GivenUpTo (report_octets settings.both (puts settings head.link older)) (next_put settings head.link older packet).text before.sinks.report.octets now.sinks.report.octets
 
+-- Status 7, between records: a report that buffers, so that its octets are not known, could not be flushed. Exactly the octets up to the end of the newest
+-- record or block (of the head, if there is no record) were taken. The capture was given the frames of all packets.
+pub record ReportEndsBetween (settings : PlainSettings) (before now : Moment) : Type 0 where
+  pub head : Head
+  pub run : RunTrace
+  pub lawful : LawfulRun settings head.link run
+  pub few : IsFew settings run
+  pub walk : Walk
+  pub packets_are : packets_in walk ≡ packets_of run
+  pub ends : EndsAtNewest walk
+  pub took : Took settings.inside before.source.octets now.source.octets head walk
+  pub capture : Appends before.sinks.capture.octets now.sinks.capture.octets (capture_octets head (puts settings head.link run))
+  pub untold : before.sinks.report.octets ≡ None
+
 -- Status 7, at the last line: all was taken, the capture was given all, the report all lines of records and a prefix of the last line.
 pub record ReportEndsInLast (settings : PlainSettings) (before now : Moment) : Type 0 where
   pub head : Head
@@ -187,7 +215,7 @@ pub record ReportEndsInLast (settings : PlainSettings) (before now : Moment) : T
   pub report : GivenUpTo (report_octets settings.both (puts settings head.link run)) (last_text (last.End (length (packets_of run)) (count_put (puts settings head.link run)))) before.sinks.report.octets now.sinks.report.octets
 
 abbrev pub EndsUntold : PlainSettings → (before now : Moment) → Type 0
-EndsUntold settings before now = ReportEndsInFirst settings before now ⊎ (ReportEndsInLine settings before now ⊎ ReportEndsInLast settings before now)
+EndsUntold settings before now = ReportEndsInFirst settings before now ⊎ (ReportEndsInLine settings before now ⊎ (ReportEndsBetween settings before now ⊎ ReportEndsInLast settings before now))
 
 -- The words request a run, and this holds under its settings.
 abbrev pub UnderWords : List (List ℕ) → (PlainSettings → Type 0) → Type 0

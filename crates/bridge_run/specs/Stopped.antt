@@ -19,7 +19,7 @@ use Rattle.both_sides.specs.Runs.{LawfulRun, RunTrace, next_run, packets_of}
 use Rattle.bridge_run.specs.declared.stop.Stop.{Stop}
 use Rattle.bridge_run.specs.declared.stop.Stop.TheVariants as stops
 use Rattle.bridge_run.specs.Moments.{Moment, NoneRose}
-use Rattle.bridge_run.specs.Outputs.{BreaksOff, first_outputs, head_outputs, outputs_of, end_outputs}
+use Rattle.bridge_run.specs.Outputs.{BreaksOff, first_outputs, head_outputs, outputs_of, hand_outputs, end_outputs}
 use Rattle.bridge_run.specs.Run.{AsksRun, IsFew}
 use Rattle.bridge_run.specs.Theorem.{Normalized}
 use Rattle.bridge_run.specs.Stops.{FirstFault, Kept, Told, status_of, stop_line, words_line, memory_line}
@@ -93,6 +93,19 @@ pub record StopsAtPacket (settings : PlainSettings) (stop : Stop) (before now : 
   pub took : Took settings.inside before.source.octets now.source.octets head walk
   pub broke : BreaksOff (outputs_of settings.both head (puts settings head.link older)) (put_outputs head.order (next_put settings head.link older packet)) (newest_place walk) stop before.sinks now.sinks
 
+-- A sink could not be flushed between records. If both sides are protected, there were fewer than 2^31 records. The head and the run's packets were taken,
+-- nothing after the record or block of the newest one, and all outputs for them were given.
+pub record StopsBetween (settings : PlainSettings) (stop : Stop) (before now : Moment) : Type 0 where
+  pub head : Head
+  pub run : RunTrace
+  pub lawful : LawfulRun settings head.link run
+  pub few : IsFew settings run
+  pub walk : Walk
+  pub packets_are : packets_in walk ≡ packets_of run
+  pub ends : EndsAtNewest walk
+  pub took : Took settings.inside before.source.octets now.source.octets head walk
+  pub broke : BreaksOff (outputs_of settings.both head (puts settings head.link run)) hand_outputs (place_behind walk) stop before.sinks now.sinks
+
 -- An output at the end failed. All was taken (fewer than 2^31 records if both sides are protected), and all outputs for the packets were given.
 pub record StopsAtEnd (settings : PlainSettings) (stop : Stop) (before now : Moment) : Type 0 where
   pub head : Head
@@ -105,10 +118,11 @@ pub record StopsAtEnd (settings : PlainSettings) (stop : Stop) (before now : Mom
   pub taken : TakenWhole before.source.octets now.source.octets
   pub broke : BreaksOff (outputs_of settings.both head (puts settings head.link run)) (end_outputs (length (packets_of run)) (count_put (puts settings head.link run))) (place_behind walk) stop before.sinks now.sinks
 
--- A sink failed, and was given a prefix of its output.
+-- A sink failed, at an output, of which it was given a prefix, or at a flush.
 abbrev pub Unwritten : PlainSettings → Stop → (before now : Moment) → Type 0
 Unwritten settings stop before now =
-    StopsAtFirstLine settings stop before now ⊎ (StopsAtWrittenHead settings stop before now ⊎ (StopsAtPacket settings stop before now ⊎ StopsAtEnd settings stop before now))
+    StopsAtFirstLine settings stop before now ⊎ (StopsAtWrittenHead settings stop before now ⊎ (StopsAtPacket settings stop before now ⊎ (StopsBetween settings stop before now
+    ⊎ StopsAtEnd settings stop before now)))
 
 -- the state at a stop, before a line reports why
 abbrev pub Stands : PlainSettings → Stop → (before now : Moment) → Type 0

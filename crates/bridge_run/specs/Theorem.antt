@@ -6,10 +6,11 @@ use Rattle.pcap_file.specs.declared.head.Head.{Head}
 use Rattle.pcap_file.specs.Heads.{head_octets}
 use Rattle.capture_input.specs.Inputs.{TookAll, TakenWhole}
 use Rattle.rule_book.specs.declared.last.Last.TheVariants.{End}
-use Rattle.norm_settings.specs.Settings.{PlainSettings}
+use Rattle.norm_settings.specs.Settings.{AreInRange, PlainSettings}
 use Rattle.both_sides.specs.Puts.{count_put, octets_put, puts, report_of}
+use Rattle.both_sides.specs.Brought.{RunInventsNothing, RunNamesEachClash, RunNamesEachFragmentClash, RunReadsRecords}
 use Rattle.both_sides.specs.Runs.{LawfulRun, RunHasOctets, RunTrace, packets_of}
-use Rattle.bridge_run.specs.Promises.{CleanKeepPayload, FramesFit, HaveTimes, InwardArePlain, MessagesAreReadAlike, MonitorMissesNothing, ReceiversAgree, StateIsBounded}
+use Rattle.bridge_run.specs.Promises.{CleanKeepPayload, FramesFit, HaveTimes, InwardArePlain, MessagesAreReadAlike, MonitorMissesNothing, ReceiversAgree, ReceiversReadOneStream, StateIsBounded}
 
 -- A capture was normalized under these settings. `source` has the octets not yet read before the run, source' those after it; `capture` and `report` have the
 -- octets that each sink held before the run, capture' and report' those after it. None means that the octets are unknown, and then nothing is claimed of them.
@@ -17,6 +18,8 @@ pub record Normalized (settings : PlainSettings) (source source' capture capture
   -- the head of the capture, and the trace of its records: by one engine, or by two if both sides are protected
   pub head : Head
   pub run : RunTrace
+  -- each number of the settings is in the range of its option, so `hops` is at most 254
+  pub range : AreInRange settings
   -- In each era with a base any two receivers of the family that start at the same offset deliver streams of which one is a prefix of the other, and a stream
   -- that has ended is not the shorter one, whichever of the frames written inwards in that era reach each of them in time, how often and in which order. An era
   -- without a base sends no octet, SYN or FIN inwards. If both sides are protected, this holds of each engine.
@@ -27,8 +30,24 @@ pub record Normalized (settings : PlainSettings) (source source' capture capture
   -- offset, which any of these frames reach in time, is a prefix of the monitor's; if it has ended, both are equal and the monitor's has ended. With both sides
   -- protected this holds of each engine.
   pub monitor : MonitorMissesNothing settings head.link run
+  -- In each era with a base there is one stream: at each offset the octet that was written first there, up to the offset of the first FIN. Every receiver of the
+  -- family, from whichever offset it starts, reads a part of it, whichever of the frames written inwards in that era reach it in time, how often and in which
+  -- order: each octet is the stream's at its offset, none is at or past the end, and a receiver that has ended has read up to the end. With both sides protected
+  -- this holds of each engine.
+  pub reads : ReceiversReadOneStream settings head.link run
   -- The trace is the lawful one: each record has the entry and the frames that the rules require, so each drop and rewrite names a rule whose condition holds.
   pub lawful : LawfulRun settings head.link run
+  -- Nothing is invented: in each era with a base each octet of that one stream, and its end, was brought by the very record that added it. That record went
+  -- inwards and was written in the era, and its datagram, which it carries or its fragment completes, has it at this offset. With both sides protected this holds
+  -- of each engine and its own records. A record of the second engine is a frame that the first wrote for a record of the capture, in order; `lawful` says
+  -- which octets it has.
+  pub brought : RunInventsNothing settings head.link run
+  -- A line names T_CLASH exactly if its record is written, has neither SYN nor RST, and brings, at an offset at or past Acked, another octet than the one written
+  -- first there. With both sides protected this holds of the lines of each engine.
+  pub clashes : RunNamesEachClash settings head.link run
+  -- A line names F_CLASH exactly if its record carries a fragment that contradicts a held one: it has, at an offset of their datagram, another octet than a fragment
+  -- of an earlier record, and no rule tested before drops it. With both sides protected this holds of the lines of each engine.
+  pub fragment_clashes : RunNamesEachFragmentClash settings head.link run
   -- Before the first record and after each, no engine holds more state than the settings allow, counted from its trace.
   pub within : StateIsBounded settings head.link run
   -- Each record that no rule drops and whose payload no rule touches (`is_clean` in norm_engine) keeps it, in one frame or in segments; with an MTU unless its
@@ -57,3 +76,11 @@ abbrev pub NormalizedIsReadAlike : Type 0
 NormalizedIsReadAlike =
     (settings : PlainSettings) (source source' capture capture' report report' : Option (List ℕ)) (n : Normalized settings source source' capture capture' report report')
     → MessagesAreReadAlike settings n.head.link n.run
+
+-- Of each capture that was normalized receivers of the packets written inwards, cut for an MTU if there is one, read only what records brought. Of an era in which
+-- no record differs from an earlier one at an offset at or past Acked they read what the sender gave, and no line of it names T_CLASH. With both sides protected
+-- this holds of each engine.
+abbrev pub NormalizedReadsRecords : Type 0
+NormalizedReadsRecords =
+    (settings : PlainSettings) (source source' capture capture' report report' : Option (List ℕ)) (n : Normalized settings source source' capture capture' report report')
+    → RunReadsRecords settings n.head.link n.run

@@ -1,10 +1,12 @@
 //! The meaning of each status: laws over the state when a run has stopped.
 ghost use Rattle.std.specs.Prelude.{◌⊎◌};
+ghost use Rattle.bridge_run.specs.Recorded.{NormalizedErasGoOn, NormalizedWasReadSo};
 ghost use Rattle.bridge_run.specs.Rows.{Leaves, UnderWords, UnderLoad, EndsSummed, EndsSummedInPart, EndsRefused, EndsFaulty, EndsCut, EndsUnread, EndsUnwritten, EndsUntold};
 ghost use Rattle.bridge_run.specs.Stopped.{Finishes, SaysOnly};
 ghost use Rattle.bridge_run.specs.Stops.{memory_line};
-ghost use Rattle.bridge_run.specs.Theorem.{NormalizedIsReadAlike};
+ghost use Rattle.bridge_run.specs.Theorem.{NormalizedIsReadAlike, NormalizedReadsRecords};
 
+use both_sides::laws::{eras_of_runs_go_on, unchanged_runs_were_read_so};
 use norm_engine::laws::messages_are_read_alike;
 
 /// Proves that at 0 the capture was normalized, or the report was given the summary of a load, and
@@ -41,14 +43,16 @@ pub fn unread_inputs_leave_what_is_before()
 
 /// Proves that at 6 the capture holds a prefix of the written head and frames that has all except
 /// those of the last record, and the report the lines of all records except the last, and the stop;
-/// or the capture had taken all, and could not be flushed.
+/// or the capture, whose octets are not known, could not be flushed, between records or at the end,
+/// and the report holds the lines of all records so far, and the stop.
 pub fn failed_outputs_leave_a_prefix()
     ensures { Leaves 6 (λ words before now. UnderWords words (λ settings. EndsUnwritten settings before now)) }
 {}
 
 /// Proves that at 7 the report holds all lines except the last, and a prefix of that one; the
 /// capture has the head and the frames of all records that were taken, or nothing if the first line
-/// failed. Of a load the report holds a prefix of the summary.
+/// failed. Or the report could not be flushed between records. Of a load the report holds a prefix
+/// of the summary.
 pub fn failed_reports_leave_a_prefix()
     ensures { Leaves 7 (λ words before now.
         UnderWords words (λ settings. EndsUntold settings before now) ⊎ UnderLoad words (λ seed count. EndsSummedInPart seed count before now)) }
@@ -65,4 +69,32 @@ pub fn written_messages_are_read_alike()
     ensures { NormalizedIsReadAlike }
 {
     messages_are_read_alike();
+}
+
+/// Proves that at 0 receivers of what was written inwards read only what records brought. If no
+/// record of an era differs from an earlier one at an offset at or past Acked, no line of it names
+/// T_CLASH, and receivers read what the sender gave.
+pub fn normalized_reads_records()
+    ensures { NormalizedReadsRecords }
+{}
+
+/// Proves of each capture that was normalized by one engine without an MTU, before the first record
+/// and after each: if each line so far that is inbound or has no side is `pass`, the recorded
+/// packets that go inwards are those that were written, so what `Normalized` promises of receivers
+/// of the written packets applies to those of the recorded ones. The same of the records and eras
+/// of a pair of addresses, if each such line of a record that may be of that pair is `pass`.
+pub fn unchanged_captures_were_read_so()
+    ensures { NormalizedWasReadSo }
+{
+    unchanged_runs_were_read_so();
+}
+
+/// Proves of any two eras of a capture that was normalized, without an MTU if by one engine: if all
+/// that was written inwards in the first is acknowledged, and the base of the second is not before
+/// that, no octet of the second is at an offset that a receiver has read in the first. If besides
+/// no FIN was written inwards in the first and no SYN in the second, both are read as one era.
+pub fn eras_of_captures_go_on()
+    ensures { NormalizedErasGoOn }
+{
+    eras_of_runs_go_on();
 }

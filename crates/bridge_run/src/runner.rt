@@ -21,7 +21,7 @@ use crate::stop::{
     tell_words,
 };
 use both_sides::Relay;
-use both_sides::laws::{runs_are_written_soundly, runs_go_on};
+use both_sides::laws::{runs_are_written_soundly, runs_go_on, runs_invent_nothing};
 use capture_input::Input;
 use capture_input::laws::{
     fault_excludes_end, fault_is_one, head_stops_are_faults, nothing_is_left, stops_are_faults,
@@ -228,7 +228,8 @@ fn take_room(alloc: Global, settings: &Settings) -> Result<(Vec<u8>, Relay), NoM
     Ok((buffer, relay))
 }
 
-// Judges every record of the capture, writes the frames and the report, and flushes the sinks.
+// Judges every record of the capture, writes the frames and the report, and flushes the sinks: at
+// the end, and before each record if the source may wait.
 fn normalize<S: Source, K: Sink, R: Sink>(
     relay: &mut Relay,
     settings: &Settings,
@@ -253,12 +254,14 @@ fn normalize<S: Source, K: Sink, R: Sink>(
 {
     runs_go_on();
     runs_are_written_soundly();
+    runs_invent_nothing();
     whole_is_input();
     let mut input = begin(settings, source, capture, report)?;
     let head = input.head();
     relay.set_link(head.link);
     let mut frames = 0u64;
     'records: loop {
+        hand_on(source, input.place(), capture, report)?;
         let record = match input.next(source, buffer) {
             Ok(Some(record)) => record,
             Ok(None) => break,
@@ -319,6 +322,31 @@ fn begin<S: Source, K: Sink, R: Sink>(
         return Err(stop_at_capture(0));
     }
     Ok(input)
+}
+
+// Flushes the frames, and then the report, if the source may wait.
+fn hand_on<S: Source, K: Sink, R: Sink>(
+    source: &S,
+    place: u64,
+    capture: &mut K,
+    report: &mut R,
+) -> Result<(), Stop>
+    ensures hands { ends.HandsOver place result
+        (sinks_of (K.held capture.old) (K.fault_count capture.old) (R.held report.old) (R.fault_count report.old))
+        (sinks_of (K.held capture.new) (K.fault_count capture.new) (R.held report.new) (R.fault_count report.new)) }
+    ensures capture_later { K.fault_count capture.old ≤ K.fault_count capture.new }
+    ensures report_later { R.fault_count report.old ≤ R.fault_count report.new }
+{
+    if !source.may_wait() {
+        return Ok(());
+    }
+    if capture.flush().is_err() {
+        return Err(stop_at_capture(place));
+    }
+    if report.flush().is_err() {
+        return Err(Stop::Report);
+    }
+    Ok(())
 }
 
 // Flushes the frames, writes the last line, and flushes the report.

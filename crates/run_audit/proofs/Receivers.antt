@@ -1,4 +1,4 @@
--- Frames without a fault describe one stream in each era, so all receivers agree, and a monitor misses nothing.
+-- Frames without a fault describe one stream in each era, so all receivers agree and read parts of it, and a monitor misses nothing.
 use Rattle.std.proofs.Common.{◌≡◌, ℕ, ◌==◌, ◌&&◌, ◌||◌, List, [], ◌∷◌, ◌++◌, map, Option, Some, None, Bool, true, false, refl, sym, ap, ◌∙◌, subst, if◌then◌else◌, append-nil, eqb-true, ℤ, All}
 use Rattle.std.proofs.lemmas.List.Elements.{All-nil, All-cons, All-append}
 use Rattle.wire_base.specs.declared.address.Side.{Side}
@@ -8,19 +8,20 @@ use Rattle.wire_base.specs.Tcp as tcp
 use Rattle.wire_base.specs.Plain.{Plain}
 use Rattle.wire_base.specs.Segments.{Segment, Written, fields_of, segment_of, written_of}
 use Rattle.era_state.specs.Offsets.{off}
-use Rattle.era_state.specs.Quantities.{base_of, acked}
+use Rattle.era_state.specs.Quantities.{base_of, acked, end_of, first}
 use Rattle.era_state.specs.Emitted.{HasNoOtherBase}
 use Rattle.era_state.specs.Silence.{IsSilent, SilenceChangesNothing}
 use Rattle.receiver_model.specs.Monitors.{MonitorsMissNothing}
 use Rattle.receiver_model.specs.Agreement.{MembersAgree}
+use Rattle.receiver_model.specs.Parts.{MembersReadParts}
 use Rattle.era_agreement.specs.Sent.{is_era, inward_packets, written_as, segments_in, written_in, place_of, placed_at, inward_places}
 use Rattle.era_agreement.specs.Agreement.{IsSilentPacket, EraIsSound, MissesNothingInTime}
-use Rattle.era_agreement.proofs.Streams.{EraLaws, IsTold, told_still, other_before, Told, one_stream}
+use Rattle.era_agreement.proofs.Streams.{EraLaws, IsTold, told_still, other_before, Told, one_stream, octet_first, fin_end}
 use Rattle.receiver_model.proofs.Places.{Each, each_append, each_map}
 use Rattle.run_audit.specs.Faults.{in_stream, lacks_base, has_other_syn, has_other_octet, has_other_fin, IsWellReadAs, IsFaultless}
 use Rattle.run_audit.specs.FirstFault.{AreFaultless}
 use Rattle.run_audit.specs.Frames.{Frame, is_based, is_inward, sent}
-use Rattle.run_audit.specs.Sound.{FaultlessAgrees, FaultlessMissesNothing}
+use Rattle.run_audit.specs.Sound.{FaultlessAgrees, FaultlessMissesNothing, FaultlessReadsOneStream}
 use Rattle.run_audit.proofs.Segments.{IsRight, EndsBehind, told, silent_unbased, ends_on, ends_silent, ends_outward}
 
 -- the laws that are cited
@@ -217,6 +218,18 @@ faultless_agrees laws members hops frames h era = by (base_of ws) refl
     by (Some base) e =
         members hops base (inward_places era base (sent frames)) (inward_packets era (sent frames))
         (let tells = era_tells laws hops era base frames h (λ number f. let same : Some number ≡ Some base = sym f ∙ e in cc same) in one_stream hops base ws (inward_places era base (sent frames)) (inward_packets era (sent frames)) tells.plain tells.each tells.ends)
+
+pub faultless_reads : Laws → MembersReadParts → FaultlessReadsOneStream
+faultless_reads laws members hops frames h era base e =
+    let ws = written_in era (sent frames) in
+    let places = inward_places era base (sent frames) in
+    let packets = inward_packets era (sent frames) in
+    let tells = era_tells laws hops era base frames h (λ number f. let same : Some number ≡ Some base = sym f ∙ e in cc same) in
+    members hops base places packets (first base ws) (end_of base ws) (one_stream hops base ws places packets tells.plain tells.each tells.ends) (record {
+      octets = λ offset octet o. octet_first base ws places packets offset octet tells.each o;
+      fins = λ offset f. fin_end base ws places packets offset tells.each f;
+      none_past = tells.ends;
+    })
 
 faultless_misses_now : Laws → MonitorsMissNothing → (hops : ℕ) (frames : List Frame) → AreFaultless hops frames → MissesNothingInTime hops (sent frames)
 faultless_misses_now laws monitors hops frames h era base e =

@@ -5,7 +5,7 @@ use Rattle.pcap_file.specs.declared.head.Head.{Head}
 use Rattle.pcap_file.specs.Records.{Packet}
 use Rattle.pcap_file.specs.Capture.{IsCapture}
 use Rattle.rule_book.specs.Entries.{PlainEntry}
-use Rattle.era_agreement.specs.Agreement.{Agree}
+use Rattle.era_agreement.specs.Agreement.{Agree, ReadsOneStream}
 use Rattle.run_audit.specs.declared.answer.Answer.{Answer}
 use Rattle.run_audit.specs.declared.answer.Answer.TheVariants as answers
 use Rattle.run_audit.specs.Answers.{flaw_of}
@@ -69,13 +69,14 @@ pub record Answered (words : List (List ℕ)) (capture report : Seen) (old new :
   pub says : Says words capture report answer
   pub told : Tells answer old new before now answered
 
--- The octets are a capture, and in each era that these entries name all receivers of the family agree on the frames that it has there; and before the first frame
--- and after each, a monitor that heard those so far in time misses nothing.
+-- The octets are a capture, and in each era that these entries name all receivers of the family agree on the frames that it has there, and read parts of one
+-- stream, from whichever offset each starts, if the era has a base (without one nothing is read); and before the first frame and after each, a monitor that heard those so far in time misses nothing.
 pub record FramesAgree (hops : ℕ) (entries : List PlainEntry) (capture : List ℕ) : Type 0 where
   pub head : Head
   pub packets : List Packet
   pub is : IsCapture capture head packets
   pub agree : Agree hops (sent (owned head.link (owners entries) (frames_of packets)))
+  pub reads : ReadsOneStream hops (sent (owned head.link (owners entries) (frames_of packets)))
   pub monitor : AlwaysMissesNothing hops (owned head.link (owners entries) (frames_of packets))
 
 -- the answer is neither that a source failed nor that memory could not be allocated: it is one about the words and the two files alone

@@ -3,13 +3,17 @@ use Rattle.std.specs.Prelude.{◌≡◌, ℕ, true, List, [], ◌∷◌, map, No
 use Rattle.wire_base.specs.Segments.{Written}
 use Rattle.era_state.specs.Quantities.{base_of, acked}
 use Rattle.era_agreement.specs.Sent.{written_in}
-use Rattle.era_agreement.specs.Agreement.{Agree, MissesNothingInTime}
+use Rattle.era_agreement.specs.Agreement.{Agree, MissesNothingInTime, ReadsOneStream}
 use Rattle.run_audit.specs.Frames.{Frame, is_inward, sent}
 use Rattle.run_audit.specs.FirstFault.{AreFaultless}
 
 -- In each era any two receivers of the family behind at most `hops` routers agree on the frames that went inwards, each at its offset.
 abbrev pub FaultlessAgrees : Type 0
 FaultlessAgrees = (hops : ℕ) (frames : List Frame) → AreFaultless hops frames → Agree hops (sent frames)
+
+-- In each era whose base is fixed every receiver reads a part of one stream of these frames, from whichever offset it starts.
+abbrev pub FaultlessReadsOneStream : Type 0
+FaultlessReadsOneStream = (hops : ℕ) (frames : List Frame) → AreFaultless hops frames → ReadsOneStream hops (sent frames)
 
 -- Before the first of these frames and after each, a monitor that heard those so far in time misses nothing.
 abbrev pub AlwaysMissesNothing : (hops : ℕ) → List Frame → Type 0

@@ -15,7 +15,9 @@ ghost use Rattle.wire_base.specs.declared.limits.TheConstants.{MAX_CAPTURED};
 
 use crate::answer::tell;
 use crate::frame::judge;
-use crate::laws::{answers_are_one, faultless_agrees, faultless_misses_nothing};
+use crate::laws::{
+    answers_are_one, faultless_agrees, faultless_misses_nothing, faultless_reads_one_stream,
+};
 use crate::named::{Eras, eras_named};
 use crate::owners::Owners;
 use crate::report::entries_of;
@@ -54,8 +56,8 @@ pub fn audit<C: Source, R: Source, K: Sink>(
         (seen (R.left report.old) (R.fault_count report.old) (R.fault_count report.new))
         (K.held out.old) (K.held out.new) (K.fault_count out.old) (K.fault_count out.new) result }
 
-    // At 0 all receivers agree, and after each frame a monitor that heard its frames in time misses nothing, whoever
-    // wrote the two files, if the octets of both are known.
+    // At 0 all receivers agree and read parts of one stream, and after each frame a monitor that heard its frames in
+    // time misses nothing, whoever wrote the two files, if the octets of both are known.
     ensures agreement { result ≡ 0 → WhereRead (map string_bytes words.now)
         (seen (C.left capture.old) (C.fault_count capture.old) (C.fault_count capture.new))
         (seen (R.left report.old) (R.fault_count report.old) (R.fault_count report.new))
@@ -72,6 +74,7 @@ pub fn audit<C: Source, R: Source, K: Sink>(
     ensures out_later { K.fault_count out.old ≤ K.fault_count out.new }
 {
     faultless_agrees();
+    faultless_reads_one_stream();
     faultless_misses_nothing();
     answers_are_one();
     match examine(alloc, words, capture, report) {

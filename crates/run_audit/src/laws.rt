@@ -2,7 +2,7 @@
 ghost use Rattle.run_audit.specs.Audited.{AnswersAreOne};
 ghost use Rattle.run_audit.specs.Emitted.{EmittedHasNoFault};
 ghost use Rattle.run_audit.specs.Lawful.{EntriesFit, ItemsAreWrittenInOrder, LawfulHasNoFault, LawfulIsYes, ResetsAreLast, WrittenIsYes};
-ghost use Rattle.run_audit.specs.Sound.{EachIsReadFromBase, FaultlessAgrees, FaultlessMissesNothing};
+ghost use Rattle.run_audit.specs.Sound.{EachIsReadFromBase, FaultlessAgrees, FaultlessMissesNothing, FaultlessReadsOneStream};
 
 use era_state::laws::{
     acked_grows_near, emitted_is_told, emitted_joins, emitted_octets_are_places,
@@ -13,7 +13,7 @@ use norm_engine::laws::{
     items_are_certain, items_are_counted, items_go_out, lawful_calls_are_made, lawful_is_emitted,
 };
 use pcap_file::laws::{head_is_read_back, record_is_read_back};
-use receiver_model::laws::{members_agree, monitors_miss_nothing};
+use receiver_model::laws::{members_agree, members_read_parts, monitors_miss_nothing};
 use tcp_codec::laws::mended_say_the_same;
 use tcp_norm::laws::{
     calls_are_emitted, lives_are_last, packets_are_its_own, packets_are_plain, probes_are_silent,
@@ -37,6 +37,20 @@ pub fn faultless_agrees()
     emitted_is_told();
     silence_changes_nothing();
     members_agree();
+}
+
+/// States that in each era every receiver reads a part of one stream of these frames, from whichever offset it starts, by
+/// the same premise.
+pub fn faultless_reads_one_stream()
+    ensures { FaultlessReadsOneStream }
+{
+    offsets_are_read();
+    inwards_acknowledge_nothing();
+    written_remains();
+    emitted_joins();
+    emitted_is_told();
+    silence_changes_nothing();
+    members_read_parts();
 }
 
 /// States that before the first of these frames and after each a monitor which heard those so far in

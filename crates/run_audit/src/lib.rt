@@ -5,8 +5,8 @@
 //! each source with known octets, and writes its whole line unless the count of faults of the
 //! output rose. If an answer holds of the words and of sources with known octets, no other holds
 //! (`answers_are_one`), and it is returned unless memory could not be allocated or a source failed.
-//! At 0, if both sources have known octets, all receivers agree in each era that the report names,
-//! whoever wrote the two files.
+//! At 0, if both sources have known octets, all receivers agree in each era that the report names
+//! and read parts of one stream, from whichever offset each starts, whoever wrote the two files.
 //!
 //! Laws: the segments by which an era is read have the base of all its segments, and nothing is
 //! acknowledged before it is fixed. In each era of a lawful trace nothing is written after an

@@ -17,6 +17,7 @@ mod forms;
 mod loads;
 mod sections;
 mod stopped;
+mod waiting;
 
 /// A test case. A capture of UDP messages: changes of its file header, its number of records, changes of the last
 /// record header, and its size. The calls that fail; the status, the report, and the number of octets written to the
