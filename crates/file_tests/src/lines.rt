@@ -7,7 +7,7 @@ use frame_view::{
 use rule_book::{Ended, Entry, Reason, Rule, Verdict};
 use serde_json::Value;
 use std::alloc::Global;
-use view_text::{Format, RecordView, record_heading, record_line};
+use view_text::{Format, ShownLine, record_heading, record_line};
 use wire_base::{Addr, Flags, Side};
 
 // 2 January 2026, 03:04:05, in nanoseconds since the beginning of 1970.
@@ -59,8 +59,8 @@ fn entry(side: Option<Side>, verdict: Verdict, packets: u8, rule: Option<Rule>) 
     }
 }
 
-fn view<'a>(entry: &'a Entry, flow: Option<Flow>, changes: &'a [Change]) -> RecordView<'a> {
-    RecordView {
+fn view(entry: Entry, flow: Option<Flow>, changes: Vec<Change>) -> ShownLine {
+    ShownLine {
         number: 1,
         second: false,
         own: 0,
@@ -100,7 +100,7 @@ type Lines<'a> = &'a [(Format, &'a str)];
 // Returns the first format in which the line of the record differs from its row.
 fn first_other(
     alloc: Global,
-    view: &RecordView<'_>,
+    view: &ShownLine,
     lines: Lines<'_>,
 ) -> Result<Option<Format>, NoMemory> {
     for (format, expected) in lines {
@@ -128,7 +128,7 @@ fn passed(alloc: Global) -> Result<Option<Format>, NoMemory> {
     let mut first = entry(Some(Side::Inward), Verdict::Pass, 1, None);
     first.era = Some(1);
     first.begun = Some(1);
-    first_other(alloc, &view(&first, Some(SYN), &[]), PASSED)
+    first_other(alloc, &view(first, Some(SYN), Vec::new(alloc)), PASSED)
 }
 
 const RECORD_HEADING: &str =
@@ -197,11 +197,9 @@ fn changed(alloc: Global) -> Result<Option<Format>, NoMemory> {
     let mut changes = Vec::new(alloc);
     add_changes(alloc, &mut changes)?;
     let fixed = entry(Some(Side::Inward), Verdict::Fix, 3, Some(Rule::ITtl));
-    let view = RecordView {
-        length: 4,
-        ..view(&fixed, Some(UDP), changes.as_slice())
-    };
-    first_other(alloc, &view, CHANGED)
+    let mut line = view(fixed, Some(UDP), changes);
+    line.length = 4;
+    first_other(alloc, &line, CHANGED)
 }
 
 #[test]
@@ -270,7 +268,7 @@ const MADE_PARTS: &[&str] = &[
 ];
 
 // Returns whether the line in JSON has these parts.
-fn has_parts(alloc: Global, view: &RecordView<'_>, parts: &[&str]) -> Result<bool, NoMemory> {
+fn has_parts(alloc: Global, view: &ShownLine, parts: &[&str]) -> Result<bool, NoMemory> {
     let line = record_line(alloc, Format::Json, view)?;
     for part in parts {
         if !line.as_str().contains(*part) {
@@ -284,9 +282,9 @@ fn made(alloc: Global) -> Result<(Option<Format>, bool), NoMemory> {
     let mut changes = Vec::new(alloc);
     add_own(OWN, &mut changes)?;
     let fixed = entry(Some(Side::Inward), Verdict::Fix, 4, None);
-    let view = view(&fixed, Some(SYN), changes.as_slice());
-    let other = first_other(alloc, &view, MADE)?;
-    Ok((other, has_parts(alloc, &view, MADE_PARTS)?))
+    let line = view(fixed, Some(SYN), changes);
+    let other = first_other(alloc, &line, MADE)?;
+    Ok((other, has_parts(alloc, &line, MADE_PARTS)?))
 }
 
 #[test]
@@ -296,7 +294,7 @@ fn frames_that_norm_made_have_their_words(rt: HostRuntime) -> Result<(), NoMemor
 }
 
 // Returns whether the line of a record is this text.
-fn is_text(alloc: Global, view: &RecordView<'_>, expected: &str) -> Result<bool, NoMemory> {
+fn is_text(alloc: Global, view: &ShownLine, expected: &str) -> Result<bool, NoMemory> {
     Ok(first_other(alloc, view, &[(Format::Text, expected)])?.is_none())
 }
 
@@ -307,12 +305,10 @@ const ARP: &str = "1 2026-01-02T03:04:05.000000000Z - - > - arp len 0 drop frame
 // Returns whether a frame whose header cannot be read has its line, and whether an ARP frame has.
 fn are_dropped(alloc: Global) -> Result<(bool, bool), NoMemory> {
     let dropped = entry(None, Verdict::Drop, 0, None);
-    let none = view(&dropped, None, &[]);
-    let arp = RecordView {
-        ethertype: Some(0x0806),
-        ..none
-    };
-    Ok((is_text(alloc, &none, DROPPED)?, is_text(alloc, &arp, ARP)?))
+    let mut line = view(dropped, None, Vec::new(alloc));
+    let none = is_text(alloc, &line, DROPPED)?;
+    line.ethertype = Some(0x0806);
+    Ok((none, is_text(alloc, &line, ARP)?))
 }
 
 const SECOND: &str =
@@ -326,14 +322,12 @@ fn is_second(alloc: Global) -> Result<bool, NoMemory> {
         reason: Reason::Idle,
         octets: Some(12),
     });
-    let other = RecordView {
-        second: true,
-        own: 9,
-        number: 1 << 32,
-        time: 951_868_799_123_456_789,
-        ..view(&second, None, &[])
-    };
-    is_text(alloc, &other, SECOND)
+    let mut line = view(second, None, Vec::new(alloc));
+    line.second = true;
+    line.own = 9;
+    line.number = 1 << 32;
+    line.time = 951_868_799_123_456_789;
+    is_text(alloc, &line, SECOND)
 }
 
 #[test]
@@ -377,7 +371,7 @@ const RULED: &[Ruled] = &[
 fn is_ruled(alloc: Global, row: &Ruled) -> Result<bool, NoMemory> {
     let (side, verdict, packets, rule, flow, line) = *row;
     let entry = entry(Some(side), verdict, packets, rule);
-    is_text(alloc, &view(&entry, Some(flow), &[]), line)
+    is_text(alloc, &view(entry, Some(flow), Vec::new(alloc)), line)
 }
 
 // Returns the index of the first record whose line differs from its row.

@@ -1,7 +1,7 @@
 //! Views of short runs.
 use crate::lines::reads_as;
 use edge_io::{MemSink, MemSource};
-use run_view::view;
+use run_view::{Event, MemEvents, Printer, view};
 use std::alloc::{AllocError, Global};
 use std::test::Fail;
 
@@ -175,9 +175,10 @@ fn shows(
     report: &mut MemSource,
     row: &View,
 ) -> Result<bool, Fail> {
-    let mut out = MemSink::new(alloc, 4000, only(alloc, row.failing[3])?)?;
+    let sink = MemSink::new(alloc, 4000, only(alloc, row.failing[3])?)?;
+    let mut out = Printer::over(alloc, sink);
     let status = view(alloc, words, input, output, report, &mut out);
-    Ok(status == row.status && is_written(alloc, out.held(), row.written))
+    Ok(status == row.status && is_written(alloc, out.sink().held(), row.written))
 }
 
 /// Runs the view, and returns whether its status and its output are the expected ones.
@@ -320,6 +321,86 @@ const BOTH_VIEWS: &[View] = &[
 #[test]
 fn run_of_two_engines_is_viewed(rt: HostRuntime) -> Result<(), Fail> {
     assert_eq!(rt; first_other(rt.alloc(), BOTH_VIEWS)?, None);
+    Ok(())
+}
+
+/// What an event is: the number of a record and how many lines it has, or how many were chosen.
+#[derive(Clone, Copy, PartialEq, Eq)]
+enum Kind {
+    Lines(u64, usize),
+    Count(u64),
+}
+
+fn kind_of(event: &Event) -> Kind {
+    match event {
+        Event::Record(lines) => match lines.first() {
+            Some(line) => Kind::Lines(line.number, lines.len()),
+            None => Kind::Lines(0, 0),
+        },
+        Event::Chosen(count) => Kind::Count(*count),
+    }
+}
+
+// Returns whether the events are of these kinds.
+fn are_of(events: &[Event], kinds: &[Kind]) -> bool {
+    if events.len() != kinds.len() {
+        return false;
+    }
+    for (index, event) in events.iter().enumerate() {
+        match kinds.get(index) {
+            Some(kind) if kind_of(event) == *kind => {}
+            _ => return false,
+        }
+    }
+    true
+}
+
+// Returns whether a view shows events of these kinds, and ends with 0.
+fn shows_kinds(alloc: Global, row: &View, kinds: &[Kind]) -> Result<bool, Fail> {
+    let words = line(alloc, row.words)?;
+    let mut input = capture_source(alloc, row.run.input, 7, 0)?;
+    let mut output = capture_source(alloc, row.run.output, 9, 0)?;
+    let mut report = report_source(alloc, row.run.report, 0)?;
+    let mut out = MemEvents::new(alloc);
+    let status = view(
+        alloc,
+        &words,
+        &mut input,
+        &mut output,
+        &mut report,
+        &mut out,
+    );
+    Ok(status == 0 && are_of(out.events.as_slice(), kinds))
+}
+
+/// Views of the run of two engines, and the events of each.
+#[rattlefmt::skip]
+const EVENTS: &[(&str, &[Kind])] = &[
+    ("in out report", &[]),
+    ("--only=fix in out report", &[Kind::Lines(3, 4), Kind::Lines(4, 2), Kind::Count(2)]),
+    ("--json in out report", &[Kind::Lines(1, 2), Kind::Lines(2, 1), Kind::Lines(3, 4), Kind::Lines(4, 2)]),
+    ("--table records --host 10.0.0.2 in out report", &[]),
+    ("--table eras in out report", &[]),
+    ("--notes in out report", &[]),
+];
+
+// Returns the index of the first view whose events differ from its row.
+fn first_other_events(alloc: Global) -> Result<Option<usize>, Fail> {
+    for (index, (words, kinds)) in EVENTS.iter().enumerate() {
+        let row = View {
+            words: *words,
+            ..BOTH_VIEW
+        };
+        if !shows_kinds(alloc, &row, kinds)? {
+            return Ok(Some(index));
+        }
+    }
+    Ok(None)
+}
+
+#[test]
+fn records_are_events_with_all_their_lines(rt: HostRuntime) -> Result<(), Fail> {
+    assert_eq!(rt; first_other_events(rt.alloc())?, None);
     Ok(())
 }
 

@@ -5,7 +5,7 @@ mod texts;
 
 use edge_io::{FileSource, LineOut};
 use error_line::{Program, STANDARD_OUTPUT, Why, failed, last_line, tell};
-use run_view::view;
+use run_view::{Printer, view};
 use std::fs::File;
 use std::io;
 use std::process::ExitCode;
@@ -35,7 +35,7 @@ fn view_files(rt: &HostRuntime, words: &[String]) -> ExitCode {
     let mut input = FileSource::opened(File::open(rt, input_name));
     let mut output = FileSource::opened(File::open(rt, output_name));
     let mut report = FileSource::opened(File::open(rt, report_name));
-    let mut out = LineOut::over(Some(rt.stdout()));
+    let mut out = Printer::over(rt.alloc(), LineOut::over(Some(rt.stdout())));
     let status = view(
         rt.alloc(),
         words,
@@ -48,9 +48,9 @@ fn view_files(rt: &HostRuntime, words: &[String]) -> ExitCode {
         input.last_error(),
         output.last_error(),
         report.last_error(),
-        out.last_error(),
+        out.sink().last_error(),
     ];
-    let stop = words_of(last_line(out.last_written()));
+    let stop = words_of(last_line(out.sink().last_written()));
     if let Some(why) = why(status, stop, input_name, output_name, report_name, &errors) {
         tell(rt, PROGRAM.name, &why);
     }

@@ -3,3 +3,4 @@ pub mod Audits
 pub mod Traces
 pub mod Unsided
 pub mod Views
+pub mod Heads

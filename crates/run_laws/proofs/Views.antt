@@ -23,12 +23,13 @@ use Rattle.run_view.specs.Forms.{heading}
 use Rattle.run_view.specs.Items.{AreItems, IsOfNewest, end_text, firsts, frames_of, lines_of, lines_text, owed_of, packets_in, packets_of, seconds}
 use Rattle.run_view.specs.Items as view
 use Rattle.run_view.specs.Laws.{AreOfARun, HasFiles, NothingFails}
-use Rattle.run_view.specs.Viewed.{IsToItsEnd, Moment, Stopped}
+use Rattle.run_view.specs.Runs.{FaultCounts, Moment}
+use Rattle.run_view.specs.Viewed.{IsToItsEnd, Stopped}
 use Rattle.run_view.specs.Words.{asked_in}
 use Rattle.run_view.specs.declared.words.Asked.{Asked}
 use Rattle.run_view.specs.declared.form.Form.{Form}
 use Rattle.run_view.specs.declared.form.Form.TheVariants.{Both, Version2}
-use Rattle.run_view.proofs.Fates.{heads_one}
+use Rattle.run_laws.proofs.Heads.{heads_one}
 use Rattle.run_laws.specs.ReadBack.{record_of, records_put}
 use Rattle.run_laws.specs.View.{FitsACapture, RunsAreViewedWhole, unsided}
 use Rattle.run_laws.proofs.Unsided.{input_unsided}
@@ -358,7 +359,7 @@ runs_viewed_whole laws settings source' input held capture told report range don
       returns = λ words asked before now status accepted files nothing. by words asked before now status accepted files nothing;
     }
   where
-    by : (words : List (List ℕ)) (asked : Asked) (before now : Moment) (status : ℕ) → asked_in words ≡ Some asked
+    by : (words : List (List ℕ)) (asked : Asked) (before : Moment) (now : FaultCounts) (status : ℕ) → asked_in words ≡ Some asked
         → HasFiles before input capture report
         → NothingFails before now → IsToItsEnd status ⊎ Stopped words before now status → IsToItsEnd status ⊎ (status ≡ 8)
     by words asked before now status accepted files nothing (inl fine) = inl fine

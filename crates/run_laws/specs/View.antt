@@ -8,7 +8,8 @@ use Rattle.both_sides.specs.Runs.{RunTrace, packets_of}
 use Rattle.bridge_run.specs.Theorem.{Normalized}
 use Rattle.run_view.specs.Items.{packets_of as item_packets}
 use Rattle.run_view.specs.Laws.{AreOfARun, HasFiles, NothingFails}
-use Rattle.run_view.specs.Viewed.{IsToItsEnd, Moment, Stopped}
+use Rattle.run_view.specs.Runs.{FaultCounts, Moment}
+use Rattle.run_view.specs.Viewed.{IsToItsEnd, Stopped}
 use Rattle.run_view.specs.Words.{asked_in}
 use Rattle.run_view.specs.declared.words.Asked.{Asked}
 
@@ -26,7 +27,7 @@ unsided packet = record packet { side = None }
 pub record IsViewed (input output report : List ℕ) (records : List Packet) : Type 0 where
   pub files : AreOfARun input output report
   pub records_are : item_packets files.items ≡ records
-  pub returns : (words : List (List ℕ)) (asked : Asked) (before now : Moment) (status : ℕ) → asked_in words ≡ Some asked
+  pub returns : (words : List (List ℕ)) (asked : Asked) (before : Moment) (now : FaultCounts) (status : ℕ) → asked_in words ≡ Some asked
       → HasFiles before input output report
       → NothingFails before now → IsToItsEnd status ⊎ Stopped words before now status → IsToItsEnd status ⊎ (status ≡ 8)
 

@@ -1,6 +1,4 @@
 //! Counts by the side that an entry says.
-ghost use Rattle.std.specs.Prelude.{◌≡◌};
-ghost use Rattle.run_notes.specs.Lines as spec;
 
 use wire_base::Side;
 
@@ -15,9 +13,7 @@ pub struct BySide {
 
 impl BySide {
     /// Counts so many more on this side.
-    pub(crate) fn add(&mut self, side: Option<Side>, more: u64)
-        ensures { self.new ≡ spec.with_more side more self.old }
-    {
+    pub(crate) fn add(&mut self, side: Option<Side>, more: u64) {
         match side {
             Some(Side::Inward) => self.inward = self.inward.saturating_add(more),
             Some(Side::Outward) => self.outward = self.outward.saturating_add(more),
@@ -26,9 +22,7 @@ impl BySide {
     }
 
     /// Counts one more on this side, where a test holds.
-    pub(crate) fn add_if(&mut self, test: bool, side: Option<Side>)
-        ensures { self.new ≡ spec.with_one_if test side self.old }
-    {
+    pub(crate) fn add_if(&mut self, test: bool, side: Option<Side>) {
         if test {
             self.add(side, 1);
         }

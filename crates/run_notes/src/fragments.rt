@@ -1,7 +1,4 @@
 //! Fragments whose datagram was never complete, and counts by number.
-ghost use Rattle.std.specs.Prelude.{◌≡◌, map, IfOk, OnOk};
-ghost use Rattle.run_notes.specs.Counts.{plain_fragments};
-ghost use Rattle.run_notes.specs.Fragments as spec;
 
 use crate::line::{is_fragment, names};
 use edge_io::NoMemory;
@@ -41,9 +38,7 @@ pub(crate) type Numbered = IndexMap<u32, u64>;
 
 impl Fragments {
     /// Returns that none is held.
-    pub(crate) fn new(alloc: Global) -> Fragments
-        ensures { plain_fragments result ≡ spec.no_fragments }
-    {
+    pub(crate) fn new(alloc: Global) -> Fragments {
         Fragments {
             datagrams: IndexMap::new(alloc),
             all: 0,
@@ -51,9 +46,7 @@ impl Fragments {
     }
 
     /// Takes the packet of a line.
-    pub(crate) fn take(&mut self, rules: &[Rule], flow: Flow) -> Result<(), NoMemory>
-        ensures { OnOk result (plain_fragments self.new ≡ spec.with_packet rules.now flow (plain_fragments self.old)) }
-    {
+    pub(crate) fn take(&mut self, rules: &[Rule], flow: Flow) -> Result<(), NoMemory> {
         if !is_fragment(flow) {
             return Ok(());
         }
@@ -67,9 +60,7 @@ impl Fragments {
     }
 
     // Holds one more fragment.
-    fn hold(&mut self, key: DatagramKey) -> Result<(), NoMemory>
-        ensures { OnOk result (plain_fragments self.new ≡ spec.with_held key (plain_fragments self.old)) }
-    {
+    fn hold(&mut self, key: DatagramKey) -> Result<(), NoMemory> {
         let held = self.held(key).saturating_add(1);
         self.datagrams.insert(key, held)?;
         self.all = self.all.saturating_add(1);
@@ -77,9 +68,7 @@ impl Fragments {
     }
 
     // Forgets the fragments of a datagram that is complete.
-    fn complete(&mut self, key: DatagramKey) -> Result<(), NoMemory>
-        ensures { OnOk result (plain_fragments self.new ≡ spec.with_complete key (plain_fragments self.old)) }
-    {
+    fn complete(&mut self, key: DatagramKey) -> Result<(), NoMemory> {
         let held = self.held(key);
         if held == 0 {
             return Ok(());
@@ -90,9 +79,7 @@ impl Fragments {
     }
 
     // Returns how many fragments of a datagram are held.
-    fn held(&self, key: DatagramKey) -> u64
-        ensures { result ≡ spec.held_of key self.now.datagrams.entries }
-    {
+    fn held(&self, key: DatagramKey) -> u64 {
         match self.datagrams.get(&key) {
             Some(held) => *held,
             None => 0,
@@ -101,9 +88,7 @@ impl Fragments {
 }
 
 // Returns the datagram of a fragment.
-fn datagram_of(flow: Flow) -> DatagramKey
-    ensures { result ≡ spec.datagram_of flow }
-{
+fn datagram_of(flow: Flow) -> DatagramKey {
     DatagramKey {
         src: flow.src,
         dst: flow.dst,
@@ -113,9 +98,7 @@ fn datagram_of(flow: Flow) -> DatagramKey
 }
 
 // Returns whether the line of a fragment says that its datagram is complete.
-fn is_completing(rules: &[Rule]) -> bool
-    ensures { result ≡ spec.is_completing rules.now }
-{
+fn is_completing(rules: &[Rule]) -> bool {
     match rules.first() {
         Some(rule) => rule.number() > Rule::FRoom.number() && *rule != Rule::FHeld,
         None => false,
@@ -123,9 +106,7 @@ fn is_completing(rules: &[Rule]) -> bool
 }
 
 /// Counts one more of a number, where there is one.
-pub(crate) fn count_number(counts: &mut Numbered, number: Option<u32>) -> Result<(), NoMemory>
-    ensures { OnOk result (counts.new.entries ≡ spec.counted_if number counts.old.entries) }
-{
+pub(crate) fn count_number(counts: &mut Numbered, number: Option<u32>) -> Result<(), NoMemory> {
     let Some(number) = number else {
         return Ok(());
     };
@@ -138,9 +119,7 @@ pub(crate) fn count_number(counts: &mut Numbered, number: Option<u32>) -> Result
 }
 
 /// Returns the counts as a list.
-pub(crate) fn listed(alloc: Global, counts: &Numbered) -> Result<Vec<NumberCount>, NoMemory>
-    ensures { IfOk result (λ list. list.items ≡ map spec.number_count counts.now.entries) }
-{
+pub(crate) fn listed(alloc: Global, counts: &Numbered) -> Result<Vec<NumberCount>, NoMemory> {
     let mut list = Vec::new(alloc);
     for place in 0..counts.len() {
         let Some((number, count)) = counts.get_index(place) else {

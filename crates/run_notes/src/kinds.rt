@@ -1,8 +1,4 @@
 //! Kinds of lines that tell of a capture as a whole.
-ghost use Rattle.std.specs.Prelude.{◌≡◌};
-ghost use Rattle.rule_book.specs.Entries.{plain};
-ghost use Rattle.run_notes.specs.Kinds as spec;
-ghost use Rattle.run_notes.specs.Counts.{plain_line};
 
 use crate::line::{is_multicast, marks_of, names, number_at, octet_at, plus_if};
 use crate::{BySide, Line};
@@ -40,16 +36,12 @@ pub(crate) struct Kinds {
 
 impl Kinds {
     /// Returns that nothing is counted.
-    pub(crate) fn new() -> Kinds
-        ensures { result ≡ spec.no_kinds }
-    {
+    pub(crate) fn new() -> Kinds {
         Kinds::default()
     }
 
     /// Counts a line, of which the headers of its packet say this.
-    pub(crate) fn count(&mut self, line: Line<'_>, flow: Option<Flow>)
-        ensures { self.new ≡ spec.with_kinds (plain_line line.entry) flow self.old }
-    {
+    pub(crate) fn count(&mut self, line: Line<'_>, flow: Option<Flow>) {
         let answering = is_answering(line.entry, flow);
         self.answering.add_if(answering, line.entry.side);
         if !line.entry.rules.is_empty() {
@@ -58,9 +50,7 @@ impl Kinds {
     }
 
     // Counts the kinds that rules name.
-    fn count_rules(&mut self, line: Line<'_>, flow: Option<Flow>)
-        ensures { self.new ≡ record (spec.with_kinds (plain_line line.entry) flow self.old) { answering = self.old.answering } }
-    {
+    fn count_rules(&mut self, line: Line<'_>, flow: Option<Flow>) {
         let rules = line.entry.rules.as_slice();
         let sideless = names(rules, Rule::ISide);
         let to_host = is_foreign(flow);
@@ -80,9 +70,7 @@ impl Kinds {
 
 impl Full {
     // Counts a line with these rules.
-    fn count(&mut self, rules: &[Rule])
-        ensures { self.new ≡ spec.with_full rules.now self.old }
-    {
+    fn count(&mut self, rules: &[Rule]) {
         self.flows = plus_if(names(rules, Rule::TFull), self.flows);
         self.cells = plus_if(names(rules, Rule::TRoom), self.cells);
         self.quota = plus_if(names(rules, Rule::TQuota), self.quota);
@@ -91,17 +79,13 @@ impl Full {
     }
 
     /// Returns whether something is counted.
-    pub(crate) fn is_any(self) -> bool
-        ensures { result ≡ spec.is_any self }
-    {
+    pub(crate) fn is_any(self) -> bool {
         self.flows > 0 || self.cells > 0 || self.quota > 0 || self.frags > 0 || self.frag_cells > 0
     }
 }
 
 // Returns whether the packet goes neither to a group nor to an address that ends in 255.
-fn is_foreign(flow: Option<Flow>) -> bool
-    ensures { result ≡ spec.is_foreign flow }
-{
+fn is_foreign(flow: Option<Flow>) -> bool {
     match flow {
         Some(flow) => !is_multicast(flow) && flow.dst.0 % 256 != 255,
         None => false,
@@ -109,44 +93,34 @@ fn is_foreign(flow: Option<Flow>) -> bool
 }
 
 // Returns whether the packet is a tunnel to one host.
-fn is_tunnelled(flow: Option<Flow>) -> bool
-    ensures { result ≡ spec.is_tunnelled flow }
-{
+fn is_tunnelled(flow: Option<Flow>) -> bool {
     match flow {
         Some(flow) => is_tunnel(flow.protocol) && !is_multicast(flow),
         None => false,
     }
 }
 
-fn is_tunnel(protocol: u8) -> bool
-    ensures { result ≡ spec.is_tunnel protocol }
-{
+fn is_tunnel(protocol: u8) -> bool {
     matches!(protocol, 4 | 41 | 47 | 50 | 51 | 132)
 }
 
 // Returns whether the line is of a segment with ACK and neither SYN nor RST, and has a side, or was
 // dropped before its addresses were judged.
-fn is_answering(entry: &Entry, flow: Option<Flow>) -> bool
-    ensures { result ≡ spec.is_answering (plain entry.now) flow }
-{
+fn is_answering(entry: &Entry, flow: Option<Flow>) -> bool {
     match flow {
         Some(flow) => answers(marks_of(flow)) && has_side_or_fault(entry),
         None => false,
     }
 }
 
-fn answers(tcp: Option<TcpMarks>) -> bool
-    ensures { result ≡ spec.answers tcp }
-{
+fn answers(tcp: Option<TcpMarks>) -> bool {
     match tcp {
         Some(marks) => marks.flags.ack() && !marks.flags.syn() && !marks.flags.rst(),
         None => false,
     }
 }
 
-fn has_side_or_fault(entry: &Entry) -> bool
-    ensures { result ≡ spec.has_side_or_fault (plain entry.now).side (plain entry.now).rules }
-{
+fn has_side_or_fault(entry: &Entry) -> bool {
     match entry.side {
         Some(_) => true,
         None => !names(entry.rules.as_slice(), Rule::ISide),
@@ -154,16 +128,12 @@ fn has_side_or_fault(entry: &Entry) -> bool
 }
 
 // Returns whether the type of an Ethernet frame is not judged.
-fn is_of_type(line: Line<'_>) -> bool
-    ensures { result ≡ spec.is_of_type (plain_line line.entry) }
-{
+fn is_of_type(line: Line<'_>) -> bool {
     names(line.entry.rules.as_slice(), Rule::LType) && line.link == Link::Ethernet
 }
 
 // Returns whether an Ethernet frame has an IPv4 packet behind a tag or a label.
-fn is_tagged(frame: &[u8]) -> bool
-    ensures { result ≡ spec.is_tagged frame.now }
-{
+fn is_tagged(frame: &[u8]) -> bool {
     match number_at(frame, 12) {
         0x8100 | 0x88a8 => is_vlan(frame),
         0x8864 => number_at(frame, 20) == 0x0021,
@@ -172,18 +142,14 @@ fn is_tagged(frame: &[u8]) -> bool
     }
 }
 
-fn is_vlan(frame: &[u8]) -> bool
-    ensures { result ≡ spec.is_vlan frame.now }
-{
+fn is_vlan(frame: &[u8]) -> bool {
     let kind = number_at(frame, 16);
     let inner = number_at(frame, 20);
     kind == 0x0800 || kind == 0x8100 && inner == 0x0800
 }
 
 // Returns whether an Ethernet frame has a segment or a UDP datagram in IPv6, to one host.
-fn is_ipv6(frame: &[u8]) -> bool
-    ensures { result ≡ spec.is_ipv6 frame.now }
-{
+fn is_ipv6(frame: &[u8]) -> bool {
     let kind = number_at(frame, 12);
     let next = octet_at(frame, 20);
     kind == 0x86dd && (next == 6 || next == 17) && frame.len() > 38 && octet_at(frame, 38) != 255

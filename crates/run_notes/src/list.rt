@@ -1,7 +1,4 @@
 //! The notes of a run.
-ghost use Rattle.std.specs.Prelude.{◌≡◌, ◌++◌, IfOk, OnOk};
-ghost use Rattle.run_notes.specs.Counts.{plain_counts};
-ghost use Rattle.run_notes.specs.Notes as spec;
 
 use crate::{BySide, Full, Notes};
 use edge_io::NoMemory;
@@ -41,9 +38,7 @@ pub enum Note {
 impl Note {
     /// Returns whether a reader may believe the wrong thing; of what is not judged a note only names
     /// it.
-    pub fn is_warning(self) -> bool
-        ensures { result ≡ spec.is_warning self }
-    {
+    pub fn is_warning(self) -> bool {
         !matches!(
             self,
             Note::Tagged { .. } | Note::Ipv6 { .. } | Note::Tunnels { .. }
@@ -53,9 +48,7 @@ impl Note {
 
 impl Notes {
     /// Returns the notes, in their order.
-    pub fn list(&self, alloc: Global) -> Result<Vec<Note>, NoMemory>
-        ensures { IfOk result (λ notes. notes.items ≡ spec.notes_of (plain_counts self.now)) }
-    {
+    pub fn list(&self, alloc: Global) -> Result<Vec<Note>, NoMemory> {
         let mut list = Vec::new(alloc);
         self.add_streams(&mut list)?;
         self.add_packets(&mut list)?;
@@ -64,9 +57,7 @@ impl Notes {
     }
 
     // Adds the notes on streams.
-    fn add_streams(&self, list: &mut Vec<Note>) -> Result<(), NoMemory>
-        ensures { OnOk result (list.new.items ≡ list.old.items ++ spec.stream_notes (plain_counts self.now)) }
-    {
+    fn add_streams(&self, list: &mut Vec<Note>) -> Result<(), NoMemory> {
         let (missing, loose) = (self.flows.missing, self.flows.loose);
         let inward = lost_of(missing.inward, loose.inward, loose.neither);
         let outward = lost_of(missing.outward, loose.outward, loose.neither);
@@ -82,9 +73,7 @@ impl Notes {
     }
 
     // Adds the notes on packets.
-    fn add_packets(&self, list: &mut Vec<Note>) -> Result<(), NoMemory>
-        ensures { OnOk result (list.new.items ≡ list.old.items ++ spec.packet_notes (plain_counts self.now)) }
-    {
+    fn add_packets(&self, list: &mut Vec<Note>) -> Result<(), NoMemory> {
         let left = self.sums.to_card;
         add_if(list, self.has_card(), Note::Card { records: left })?;
         let wrong = self.sums.wrong;
@@ -97,9 +86,7 @@ impl Notes {
     }
 
     // Adds the notes on what is not judged, on tables that were full, and on records that are cut.
-    fn add_kinds(&self, list: &mut Vec<Note>) -> Result<(), NoMemory>
-        ensures { OnOk result (list.new.items ≡ list.old.items ++ spec.kind_notes (plain_counts self.now)) }
-    {
+    fn add_kinds(&self, list: &mut Vec<Note>) -> Result<(), NoMemory> {
         let tagged = self.kinds.tagged;
         add_if(list, tagged > 0, Note::Tagged { records: tagged })?;
         let ipv6 = self.kinds.ipv6;
@@ -113,16 +100,12 @@ impl Notes {
     }
 
     // Returns whether records come behind their acknowledgment; an attacker may make one or two gaps.
-    fn has_order(&self) -> bool
-        ensures { result ≡ spec.has_order (plain_counts self.now) }
-    {
+    fn has_order(&self) -> bool {
         self.flows.gaps >= 3
     }
 
     // Returns whether the capture begins in mid-connection, and no other note says why.
-    fn has_half(&self) -> bool
-        ensures { result ≡ spec.has_half (plain_counts self.now) }
-    {
+    fn has_half(&self) -> bool {
         let share = is_share(self.tuples.middle, 1, 8, self.tuples.begun);
         let probed = self.tuples.probed > 0;
         let explained = self.is_explained();
@@ -130,9 +113,7 @@ impl Notes {
     }
 
     // Returns whether another note says why connections have no beginning.
-    fn is_explained(&self) -> bool
-        ensures { result ≡ spec.is_explained (plain_counts self.now) }
-    {
+    fn is_explained(&self) -> bool {
         let order = self.has_order();
         let card = self.has_card();
         let wrong = self.has_wrong();
@@ -143,9 +124,7 @@ impl Notes {
     }
 
     // Returns whether segments go one way alone.
-    fn has_one(&self) -> bool
-        ensures { result ≡ spec.has_one (plain_counts self.now) }
-    {
+    fn has_one(&self) -> bool {
         let answering = self.kinds.answering;
         let most = answering.inward.max(answering.outward);
         let few = answering.inward.min(answering.outward);
@@ -153,23 +132,17 @@ impl Notes {
     }
 
     // Returns whether many checksums are left to the card.
-    fn has_card(&self) -> bool
-        ensures { result ≡ spec.has_card (plain_counts self.now) }
-    {
+    fn has_card(&self) -> bool {
         self.has_side(self.sums.to_card, 2, 64)
     }
 
     // Returns whether most checksums are wrong otherwise.
-    fn has_wrong(&self) -> bool
-        ensures { result ≡ spec.has_wrong (plain_counts self.now) }
-    {
+    fn has_wrong(&self) -> bool {
         self.has_side(self.sums.wrong, 4, 2)
     }
 
     // Returns whether a side has so many, and one in `part` of its packets.
-    fn has_side(&self, count: BySide, least: u64, part: u64) -> bool
-        ensures { result ≡ spec.side_share count least part (plain_counts self.now) }
-    {
+    fn has_side(&self, count: BySide, least: u64, part: u64) -> bool {
         let inward = is_share(count.inward, least, part, self.sums.carried.inward);
         let outward = is_share(count.outward, least, part, self.sums.carried.outward);
         let neither = is_share(count.neither, least, part, self.sums.packets);
@@ -177,16 +150,12 @@ impl Notes {
     }
 
     // Returns whether most packets belong to no side.
-    fn has_foreign(&self) -> bool
-        ensures { result ≡ spec.has_foreign (plain_counts self.now) }
-    {
+    fn has_foreign(&self) -> bool {
         u128::from(self.sums.packets) < 2 * u128::from(self.kinds.foreign)
     }
 
     // Returns the records by the option whose table was full.
-    fn full(&self) -> Full
-        ensures { result ≡ spec.full_of (plain_counts self.now) }
-    {
+    fn full(&self) -> Full {
         Full {
             flows: self.kinds.full.flows.saturating_add(self.tuples.resumed),
             ..self.kinds.full
@@ -195,9 +164,7 @@ impl Notes {
 }
 
 // Adds a note where a test holds.
-fn add_if(list: &mut Vec<Note>, test: bool, note: Note) -> Result<(), NoMemory>
-    ensures { OnOk result (list.new.items ≡ list.old.items ++ spec.note_if test note) }
-{
+fn add_if(list: &mut Vec<Note>, test: bool, note: Note) -> Result<(), NoMemory> {
     if test {
         list.push(note)?;
     }
@@ -205,37 +172,27 @@ fn add_if(list: &mut Vec<Note>, test: bool, note: Note) -> Result<(), NoMemory>
 }
 
 // Returns the most octets of a side that no record had by then, less those that belong to no stream.
-fn lost_of(missing: u64, own: u64, neither: u64) -> u64
-    ensures { result ≡ spec.lost_of missing own neither }
-{
+fn lost_of(missing: u64, own: u64, neither: u64) -> u64 {
     missing.saturating_sub(own).saturating_sub(neither)
 }
 
 // Returns whether octets are lost, in a capture whose records are in order.
-fn has_lost(inward: u64, outward: u64, order: bool) -> bool
-    ensures { result ≡ spec.has_lost inward outward order }
-{
+fn has_lost(inward: u64, outward: u64, order: bool) -> bool {
     (inward > 0 || outward > 0) && !order
 }
 
 // Returns whether a count reaches a least one, and one in `part` of all.
-fn is_share(count: u64, least: u64, part: u64, all: u64) -> bool
-    ensures { result ≡ spec.is_share count least part all }
-{
+fn is_share(count: u64, least: u64, part: u64, all: u64) -> bool {
     count >= least && u128::from(part) * u128::from(count) >= u128::from(all)
 }
 
 // Returns whether segments of one side are many, and those of the other and of neither few.
-fn is_one_sided(most: u64, few: u64, neither: u64) -> bool
-    ensures { result ≡ spec.is_one_sided most few neither }
-{
+fn is_one_sided(most: u64, few: u64, neither: u64) -> bool {
     let others = u128::from(few) + u128::from(neither);
     most >= 8 && u128::from(most) >= 256 * others
 }
 
 /// Returns whether one of the notes is a warning.
-pub fn has_warning(notes: &[Note]) -> bool
-    ensures { result ≡ spec.has_warning notes.now }
-{
+pub fn has_warning(notes: &[Note]) -> bool {
     notes.iter().any(|note| note.is_warning())
 }

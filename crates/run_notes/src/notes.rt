@@ -1,12 +1,5 @@
 //! All that is counted for the notes of a run.
-ghost use Rattle.std.specs.Prelude.{◌≡◌, map, IfOk, OnOk};
-ghost use Rattle.frame_view.specs.Flows.{ethertype_in};
 ghost use Rattle.frame_view.specs.Parts.{IsReadable};
-ghost use Rattle.rule_book.specs.Entries.{plain};
-ghost use Rattle.run_notes.specs.Counts as spec;
-ghost use Rattle.run_notes.specs.Counts.{plain_counts, plain_line};
-ghost use Rattle.run_notes.specs.Fragments as types;
-ghost use Rattle.run_notes.specs.Lines.{flow_at};
 
 use crate::Line;
 use crate::fragments::{Fragments, NumberCount, Numbered, count_number, listed};
@@ -39,9 +32,7 @@ pub struct Notes {
 
 impl Notes {
     /// Returns that nothing is counted.
-    pub fn new(alloc: Global) -> Notes
-        ensures { plain_counts result ≡ spec.no_counts }
-    {
+    pub fn new(alloc: Global) -> Notes {
         Notes {
             sums: Sums::new(),
             kinds: Kinds::new(),
@@ -56,9 +47,7 @@ impl Notes {
 
     /// Counts one more line of the first engine. Fails only if memory cannot be allocated; what is
     /// counted then is out of date.
-    pub fn take(&mut self, line: Line<'_>) -> Result<(), NoMemory>
-        ensures { OnOk result (plain_counts self.new ≡ spec.with_line (plain_line line.entry) (plain_counts self.old)) }
-    {
+    pub fn take(&mut self, line: Line<'_>) -> Result<(), NoMemory> {
         let flow = flow_of(line.link, line.octets);
         self.take_entry(line, flow)?;
         let packet = packet_of(line.link, line.octets);
@@ -72,31 +61,22 @@ impl Notes {
     }
 
     /// Returns the number of fragments whose datagram was never complete.
-    pub fn unfinished(&self) -> u64
-        ensures { result ≡ (plain_counts self.now).fragments.all }
-    {
+    pub fn unfinished(&self) -> u64 {
         self.fragments.all
     }
 
     /// Returns the EtherTypes that are not judged, in the order of first naming.
-    pub fn types(&self, alloc: Global) -> Result<Vec<NumberCount>, NoMemory>
-        ensures { IfOk result (λ list. list.items ≡ map types.number_count (plain_counts self.now).types) }
-    {
+    pub fn types(&self, alloc: Global) -> Result<Vec<NumberCount>, NoMemory> {
         listed(alloc, &self.types)
     }
 
     /// Returns the protocols that are not judged, in the order of first naming.
-    pub fn protocols(&self, alloc: Global) -> Result<Vec<NumberCount>, NoMemory>
-        ensures { IfOk result (λ list. list.items ≡ map types.number_count (plain_counts self.now).protocols) }
-    {
+    pub fn protocols(&self, alloc: Global) -> Result<Vec<NumberCount>, NoMemory> {
         listed(alloc, &self.protocols)
     }
 
     // Counts what a line says without its packet, of which the headers say this.
-    fn take_entry(&mut self, line: Line<'_>, flow: Option<Flow>) -> Result<(), NoMemory>
-        requires { flow ≡ flow_at (plain_line line) }
-        ensures { OnOk result (plain_counts self.new ≡ spec.with_entry (plain_line line.entry) (plain_counts self.old)) }
-    {
+    fn take_entry(&mut self, line: Line<'_>, flow: Option<Flow>) -> Result<(), NoMemory> {
         let entry = line.entry;
         self.kinds.count(line, flow);
         self.tuples.begun = plus_if(entry.begun.is_some(), self.tuples.begun);
@@ -111,7 +91,6 @@ impl Notes {
     // Counts the packet of a line.
     fn take_packet(&mut self, entry: &Entry, flow: Flow, packet: &[u8]) -> Result<(), NoMemory>
         requires { IsReadable packet.now }
-        ensures { OnOk result (plain_counts self.new ≡ spec.with_packet (plain entry.now) flow packet.now (plain_counts self.old)) }
     {
         self.sums.count(entry, flow, packet);
         self.twins.take(flow, packet)?;
@@ -122,9 +101,7 @@ impl Notes {
 }
 
 // Returns the EtherType of a record that is dropped for it.
-fn type_of(line: Line<'_>) -> Option<u32>
-    ensures { result ≡ types.type_of (plain line.entry.entry.now).rules (ethertype_in line.entry.link line.entry.octets.now) }
-{
+fn type_of(line: Line<'_>) -> Option<u32> {
     if !names(line.entry.rules.as_slice(), Rule::LType) {
         return None;
     }
@@ -135,9 +112,7 @@ fn type_of(line: Line<'_>) -> Option<u32>
 }
 
 // Returns the protocol of a packet that is dropped for it.
-fn protocol_of(rules: &[Rule], flow: Option<Flow>) -> Option<u32>
-    ensures { result ≡ types.protocol_of rules.now flow }
-{
+fn protocol_of(rules: &[Rule], flow: Option<Flow>) -> Option<u32> {
     match flow {
         Some(flow) if names(rules, Rule::PProto) => Some(u32::from(flow.protocol)),
         _ => None,

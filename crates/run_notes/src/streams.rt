@@ -1,10 +1,6 @@
 //! What is known of the two streams of an era.
-ghost use Rattle.std.specs.Prelude.{◌≡◌, ◌<◌, ◌^◌, OnOk};
-ghost use Rattle.run_notes.specs.Lines.{plus};
+ghost use Rattle.std.specs.Prelude.{◌<◌, ◌^◌};
 ghost use Rattle.frame_view.specs.Parts.{IsReadable};
-ghost use Rattle.rule_book.specs.Entries.{plain};
-ghost use Rattle.run_notes.specs.Counts.{plain_flows};
-ghost use Rattle.run_notes.specs.Streams as spec;
 
 use crate::BySide;
 use crate::line::{is_drop, marks_of, names};
@@ -76,9 +72,7 @@ pub(crate) struct Flows {
 
 impl Half {
     // Takes a segment of this side.
-    fn take_own(&mut self, seen: Seen)
-        ensures { self.new ≡ spec.with_own seen self.old }
-    {
+    fn take_own(&mut self, seen: Seen) {
         match self.base {
             None => self.begin(seen),
             Some(base) => {
@@ -90,9 +84,7 @@ impl Half {
     }
 
     // Takes the first segment of this side that is not dropped, or one before it.
-    fn begin(&mut self, seen: Seen)
-        ensures { self.new ≡ spec.begun seen (record self.old { octets = plus self.old.octets seen.size }) }
-    {
+    fn begin(&mut self, seen: Seen) {
         self.octets = self.octets.saturating_add(seen.size);
         if !seen.dropped {
             // A segment without octets may be a keep-alive, from one before the next number.
@@ -103,9 +95,7 @@ impl Half {
     }
 
     // Counts the octets of a segment.
-    fn place(&mut self, start: Option<u64>, stop: Option<u64>, seen: Seen)
-        ensures { self.new ≡ spec.placed start stop seen self.old }
-    {
+    fn place(&mut self, start: Option<u64>, stop: Option<u64>, seen: Seen) {
         let (Some(start), Some(stop)) = (start, stop) else {
             self.octets = self.octets.saturating_add(seen.size);
             return;
@@ -118,9 +108,7 @@ impl Half {
     }
 
     // Fills the newest gap with octets from one offset to another.
-    fn fill(&mut self, start: u64, stop: u64)
-        ensures { self.new ≡ spec.filled start stop self.old }
-    {
+    fn fill(&mut self, start: u64, stop: u64) {
         if self.front >= self.end || start > self.front || stop <= self.front {
             return;
         }
@@ -134,9 +122,7 @@ impl Half {
     }
 
     // Takes a segment of the other side.
-    fn take_other(&mut self, seen: Seen)
-        ensures { self.new ≡ spec.with_other seen self.old }
-    {
+    fn take_other(&mut self, seen: Seen) {
         let (Some(ack), Some(base), false) = (seen.ack, self.base, seen.dropped) else {
             return;
         };
@@ -146,9 +132,7 @@ impl Half {
     }
 
     // Takes an acknowledgment up to an offset.
-    fn acknowledge(&mut self, offset: u64)
-        ensures { self.new ≡ spec.acked_to offset self.old }
-    {
+    fn acknowledge(&mut self, offset: u64) {
         let known = self.top.max(self.acked);
         if known < offset {
             self.front = known;
@@ -158,9 +142,7 @@ impl Half {
     }
 
     // Notes how many octets are missing.
-    fn note_worst(&mut self)
-        ensures { self.new ≡ spec.with_worst self.old }
-    {
+    fn note_worst(&mut self) {
         let missing = self.top.min(self.acked).saturating_sub(self.octets);
         self.worst = self.worst.max(missing);
     }
@@ -168,16 +150,12 @@ impl Half {
 
 impl Streams {
     // Returns that nothing is known.
-    fn new() -> Streams
-        ensures { result ≡ spec.no_streams }
-    {
+    fn new() -> Streams {
         Streams::default()
     }
 
     // Takes a segment of this side.
-    fn take(&mut self, side: Side, seen: Seen)
-        ensures { self.new ≡ spec.with_segment side seen self.old }
-    {
+    fn take(&mut self, side: Side, seen: Seen) {
         match side {
             Side::Inward => {
                 self.inward.take_own(seen);
@@ -195,9 +173,7 @@ impl Streams {
 
 impl Flows {
     /// Returns that nothing is known.
-    pub(crate) fn new(alloc: Global) -> Flows
-        ensures { plain_flows result ≡ spec.no_flows }
-    {
+    pub(crate) fn new(alloc: Global) -> Flows {
         Flows {
             eras: IndexMap::new(alloc),
             missing: BySide::default(),
@@ -207,9 +183,7 @@ impl Flows {
     }
 
     /// Returns what is known of an era.
-    pub(crate) fn streams(&self, era: u32) -> Streams
-        ensures { result ≡ spec.streams_at era self.now.eras.entries }
-    {
+    pub(crate) fn streams(&self, era: u32) -> Streams {
         match self.eras.get(&era) {
             Some(streams) => *streams,
             None => Streams::new(),
@@ -217,18 +191,14 @@ impl Flows {
     }
 
     /// Notes which of these eras were evicted.
-    pub(crate) fn end_all(&mut self, ended: &[Ended]) -> Result<(), NoMemory>
-        ensures { OnOk result (plain_flows self.new ≡ record (plain_flows self.old) { table = spec.with_ends ended.now (plain_flows self.old).table }) }
-    {
+    pub(crate) fn end_all(&mut self, ended: &[Ended]) -> Result<(), NoMemory> {
         for one in ended {
             self.end(*one)?;
         }
         Ok(())
     }
 
-    fn end(&mut self, ended: Ended) -> Result<(), NoMemory>
-        ensures { OnOk result (plain_flows self.new ≡ record (plain_flows self.old) { table = spec.with_end ended (plain_flows self.old).table }) }
-    {
+    fn end(&mut self, ended: Ended) -> Result<(), NoMemory> {
         let mut streams = self.streams(ended.era);
         streams.evicted = matches!(ended.reason, Reason::Evicted);
         self.eras.insert(ended.era, streams)?;
@@ -238,7 +208,6 @@ impl Flows {
     /// Takes the packet of a line.
     pub(crate) fn take(&mut self, entry: &Entry, flow: Flow, packet: &[u8]) -> Result<(), NoMemory>
         requires { IsReadable packet.now }
-        ensures { OnOk result (plain_flows self.new ≡ spec.with_packet (plain entry.now) flow packet.now (plain_flows self.old)) }
     {
         if flow.protocol != protocol::TCP {
             return Ok(());
@@ -260,9 +229,7 @@ impl Flows {
         entry: &Entry,
         flow: Flow,
         marks: TcpMarks,
-    ) -> Result<(), NoMemory>
-        ensures { OnOk result (plain_flows self.new ≡ spec.with_marks era (plain entry.now).side (plain entry.now).verdict flow marks (plain_flows self.old)) }
-    {
+    ) -> Result<(), NoMemory> {
         match entry.side {
             Some(side) if !marks.flags.rst() => {
                 let seen = seen_of(is_drop(entry.verdict), flow, marks);
@@ -273,9 +240,7 @@ impl Flows {
     }
 
     // Takes a segment of an era.
-    fn take_seen(&mut self, era: u32, side: Side, seen: Seen) -> Result<(), NoMemory>
-        ensures { OnOk result (plain_flows self.new ≡ spec.with_seen era side seen (plain_flows self.old)) }
-    {
+    fn take_seen(&mut self, era: u32, side: Side, seen: Seen) -> Result<(), NoMemory> {
         if let Some(streams) = self.eras.get_mut(&era) {
             let old = *streams;
             streams.take(side, seen);
@@ -291,9 +256,7 @@ impl Flows {
     }
 
     // Counts what is missing more than before.
-    fn add_change(&mut self, old: Streams, new: Streams)
-        ensures { plain_flows self.new ≡ record (spec.with_changed 0 old new (plain_flows self.old)) { table = (plain_flows self.old).table } }
-    {
+    fn add_change(&mut self, old: Streams, new: Streams) {
         let inward = new.inward.worst.saturating_sub(old.inward.worst);
         let outward = new.outward.worst.saturating_sub(old.outward.worst);
         self.missing.add(Some(Side::Inward), inward);
@@ -308,7 +271,6 @@ impl Flows {
 // length leaves behind 40 octets of headers.
 fn loose_octets(rules: &[Rule], flow: Flow, packet: &[u8]) -> u64
     requires { IsReadable packet.now }
-    ensures { result ≡ spec.loose_octets rules.now flow packet.now }
 {
     if !names(rules, Rule::LSnap) {
         return flow.length;
@@ -318,9 +280,7 @@ fn loose_octets(rules: &[Rule], flow: Flow, packet: &[u8]) -> u64
 }
 
 // Returns what a segment says of its era.
-fn seen_of(dropped: bool, flow: Flow, marks: TcpMarks) -> Seen
-    ensures { result ≡ spec.seen_of dropped flow marks }
-{
+fn seen_of(dropped: bool, flow: Flow, marks: TcpMarks) -> Seen {
     let flags = marks.flags;
     Seen {
         size: if flags.fin() {
@@ -341,9 +301,7 @@ fn seen_of(dropped: bool, flow: Flow, marks: TcpMarks) -> Seen
 
 // Returns the offset of a sequence number, read nearest to `top`, and `more` octets further; None if
 // it is more than 2^30 octets away.
-fn offset_of(base: u32, top: u64, number: u32, more: u64) -> Option<u64>
-    ensures { result ≡ spec.offset_of base top number more }
-{
+fn offset_of(base: u32, top: u64, number: u32, more: u64) -> Option<u64> {
     offset_by(
         top,
         sequence_distance(sequence_plus(base, top), number),
@@ -353,7 +311,6 @@ fn offset_of(base: u32, top: u64, number: u32, more: u64) -> Option<u64>
 
 fn offset_by(top: u64, far: u64, more: u64) -> Option<u64>
     requires { far < 2 ^ 32 }
-    ensures { result ≡ spec.offset_by top far more }
 {
     if far <= FAR {
         Some(top.saturating_add(far).saturating_add(more))

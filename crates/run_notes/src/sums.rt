@@ -1,10 +1,5 @@
 //! Checksums that a stack leaves to the network card, and others that are wrong.
-ghost use Rattle.std.specs.Prelude.{◌≡◌, ◌||◌, ◌&&◌, not};
-ghost use Rattle.rule_book.specs.Entries.{plain};
-ghost use Rattle.rule_book.specs.declared.rule.Rule.TheVariants.{ISum};
 ghost use Rattle.frame_view.specs.Parts.{IsReadable};
-ghost use Rattle.run_notes.specs.Lines.{names as names_rule};
-ghost use Rattle.run_notes.specs.Sums as spec;
 
 use crate::BySide;
 use crate::line::{is_fragment, names, number_at};
@@ -27,16 +22,13 @@ pub(crate) struct Sums {
 
 impl Sums {
     /// Returns that nothing is counted.
-    pub(crate) fn new() -> Sums
-        ensures { result ≡ spec.no_sums }
-    {
+    pub(crate) fn new() -> Sums {
         Sums::default()
     }
 
     /// Counts the packet of a record.
     pub(crate) fn count(&mut self, entry: &Entry, flow: Flow, packet: &[u8])
         requires { IsReadable packet.now }
-        ensures { self.new ≡ spec.with_packet (plain entry.now).side (plain entry.now).rules flow packet.now self.old }
     {
         self.packets = self.packets.saturating_add(1);
         if is_fragment(flow) {
@@ -51,16 +43,13 @@ impl Sums {
 }
 
 // Returns whether the packet carries a segment or a UDP datagram.
-fn is_carried(flow: Flow) -> bool
-    ensures { result ≡ spec.is_carried flow }
-{
+fn is_carried(flow: Flow) -> bool {
     flow.protocol == protocol::TCP || flow.protocol == protocol::UDP
 }
 
 // Returns whether a checksum or the total length is left to the card.
 fn is_left(rules: &[Rule], flow: Flow, packet: &[u8]) -> bool
     requires { IsReadable packet.now }
-    ensures { result ≡ spec.is_left rules.now flow packet.now }
 {
     let message = names_sum(rules) && flow.ports.is_some() && is_pseudo(packet);
     let header = names(rules, Rule::ISum) && u16_at(packet, 10) == 0;
@@ -69,17 +58,13 @@ fn is_left(rules: &[Rule], flow: Flow, packet: &[u8]) -> bool
 }
 
 // Returns whether a checksum is wrong otherwise.
-fn is_wrong(rules: &[Rule], left: bool) -> bool
-    ensures { result ≡ ((spec.names_sum rules.now || names_rule rules.now ISum) && not left) }
-{
+fn is_wrong(rules: &[Rule], left: bool) -> bool {
     let named = names_sum(rules) || names(rules, Rule::ISum);
     named && !left
 }
 
 // Returns whether the line says that the checksum of a message is wrong.
-fn names_sum(rules: &[Rule]) -> bool
-    ensures { result ≡ spec.names_sum rules.now }
-{
+fn names_sum(rules: &[Rule]) -> bool {
     let segment = names(rules, Rule::TSum);
     let datagram = names(rules, Rule::USum);
     segment || datagram
@@ -88,7 +73,6 @@ fn names_sum(rules: &[Rule]) -> bool
 // Returns whether the checksum field of a message has the folded sum of the pseudo header.
 fn is_pseudo(packet: &[u8]) -> bool
     requires { IsReadable packet.now }
-    ensures { result ≡ spec.is_pseudo packet.now }
 {
     let message = message_in(packet);
     let place = if packet[9] == protocol::TCP { 16 } else { 6 };

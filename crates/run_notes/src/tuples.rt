@@ -1,9 +1,4 @@
 //! Connections that a capture does not begin.
-ghost use Rattle.std.specs.Prelude.{◌≡◌, OnOk};
-ghost use Rattle.std.specs.Map.{lookup};
-ghost use Rattle.rule_book.specs.Entries.{plain};
-ghost use Rattle.run_notes.specs.Counts.{plain_tuples};
-ghost use Rattle.run_notes.specs.Tuples as spec;
 
 use crate::line::{marks_of, names, plus_if};
 use crate::streams::Flows;
@@ -31,9 +26,7 @@ pub(crate) struct Tuples {
 
 impl Tuples {
     /// Returns that nothing is known.
-    pub(crate) fn new(alloc: Global) -> Tuples
-        ensures { plain_tuples result ≡ spec.no_tuples }
-    {
+    pub(crate) fn new(alloc: Global) -> Tuples {
         Tuples {
             eras: IndexMap::new(alloc),
             begun: 0,
@@ -44,9 +37,7 @@ impl Tuples {
     }
 
     /// Takes the packet of a line, where it is a segment that is no fragment and has a side.
-    pub(crate) fn take(&mut self, entry: &Entry, flow: Flow, eras: &Flows) -> Result<(), NoMemory>
-        ensures { OnOk result (plain_tuples self.new ≡ spec.with_packet (plain entry.now) flow eras.now.eras.entries (plain_tuples self.old)) }
-    {
+    pub(crate) fn take(&mut self, entry: &Entry, flow: Flow, eras: &Flows) -> Result<(), NoMemory> {
         match (entry.side, flow.ports, marks_of(flow)) {
             (Some(side), Some(ports), Some(marks)) => {
                 let key = key_of(side, flow, ports);
@@ -58,9 +49,7 @@ impl Tuples {
     }
 
     // Takes a segment of this four-tuple, where it goes on with a connection.
-    fn go_on(&mut self, key: FlowKey, entry: &Entry, octets: u64, marks: TcpMarks, eras: &Flows)
-        ensures { plain_tuples self.new ≡ spec.gone_on key (plain entry.now) octets marks eras.now.eras.entries (plain_tuples self.old) }
-    {
+    fn go_on(&mut self, key: FlowKey, entry: &Entry, octets: u64, marks: TcpMarks, eras: &Flows) {
         let middle = is_middle(entry, marks);
         let probed = is_probed(entry, marks);
         if !middle && !probed {
@@ -77,9 +66,7 @@ impl Tuples {
     }
 
     // Makes this era, where one begins, the last one of a four-tuple.
-    fn begin(&mut self, key: FlowKey, begun: Option<u32>) -> Result<(), NoMemory>
-        ensures { OnOk result (plain_tuples self.new ≡ spec.with_begun key begun (plain_tuples self.old)) }
-    {
+    fn begin(&mut self, key: FlowKey, begun: Option<u32>) -> Result<(), NoMemory> {
         if let Some(era) = begun {
             self.eras.insert(key, era)?;
         }
@@ -87,32 +74,24 @@ impl Tuples {
     }
 
     // Returns the last era of a four-tuple.
-    fn last(&self, key: FlowKey) -> Option<u32>
-        ensures { result ≡ lookup (spec.is_key key) self.now.eras.entries }
-    {
+    fn last(&self, key: FlowKey) -> Option<u32> {
         self.eras.get(&key).copied()
     }
 }
 
 // Returns whether a segment begins an era without SYN.
-fn is_middle(entry: &Entry, marks: TcpMarks) -> bool
-    ensures { result ≡ spec.is_middle (plain entry.now) marks }
-{
+fn is_middle(entry: &Entry, marks: TcpMarks) -> bool {
     entry.begun.is_some() && !marks.flags.syn()
 }
 
 // Returns whether a segment is replaced by a probe, is of no era and no RST.
-fn is_probed(entry: &Entry, marks: TcpMarks) -> bool
-    ensures { result ≡ spec.is_probed (plain entry.now) marks }
-{
+fn is_probed(entry: &Entry, marks: TcpMarks) -> bool {
     let named = names(entry.rules.as_slice(), Rule::CProbe);
     named && entry.begun.is_none() && entry.era.is_none() && !marks.flags.rst()
 }
 
 // Returns the four-tuple of a segment.
-fn key_of(side: Side, flow: Flow, ports: Ports) -> FlowKey
-    ensures { result ≡ spec.key_of side flow ports }
-{
+fn key_of(side: Side, flow: Flow, ports: Ports) -> FlowKey {
     match side {
         Side::Inward => FlowKey {
             outside: flow.src,

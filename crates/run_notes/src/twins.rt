@@ -1,8 +1,5 @@
 //! Packets that a capture has twice.
-ghost use Rattle.std.specs.Prelude.{◌≡◌, take, drop, OnOk};
 ghost use Rattle.frame_view.specs.Parts.{IsReadable};
-ghost use Rattle.run_notes.specs.Twins as spec;
-ghost use Rattle.run_notes.specs.Counts.{plain_twins};
 
 use crate::line::{is_fragment, octet_at, plus_if};
 use edge_io::NoMemory;
@@ -28,9 +25,7 @@ pub(crate) struct Twins {
 
 impl Twins {
     /// Returns that there is no record yet.
-    pub(crate) fn new(alloc: Global) -> Twins
-        ensures { plain_twins result ≡ spec.no_twins }
-    {
+    pub(crate) fn new(alloc: Global) -> Twins {
         Twins {
             candidates: 0,
             twice: 0,
@@ -44,7 +39,6 @@ impl Twins {
     /// Takes the packet of a record.
     pub(crate) fn take(&mut self, flow: Flow, packet: &[u8]) -> Result<(), NoMemory>
         requires { IsReadable packet.now }
-        ensures { OnOk result (plain_twins self.new ≡ spec.with_packet flow packet.now (plain_twins self.old)) }
     {
         if !is_candidate(flow) {
             self.pass();
@@ -54,9 +48,7 @@ impl Twins {
     }
 
     /// Takes a record that is no candidate.
-    pub(crate) fn pass(&mut self)
-        ensures { plain_twins self.new ≡ spec.with_other (plain_twins self.old) }
-    {
+    pub(crate) fn pass(&mut self) {
         mem::swap(&mut self.third, &mut self.fourth);
         mem::swap(&mut self.second, &mut self.third);
         mem::swap(&mut self.first, &mut self.second);
@@ -64,9 +56,7 @@ impl Twins {
     }
 
     // Takes a packet that can be told from the next one.
-    fn take_candidate(&mut self, octets: &[u8]) -> Result<(), NoMemory>
-        ensures { OnOk result (plain_twins self.new ≡ spec.with_candidate octets.now (plain_twins self.old)) }
-    {
+    fn take_candidate(&mut self, octets: &[u8]) -> Result<(), NoMemory> {
         let found = self.has_twin(octets);
         self.twice = plus_if(found, self.twice);
         self.candidates = self.candidates.saturating_add(1);
@@ -76,9 +66,7 @@ impl Twins {
     }
 
     // Returns whether one of the four is a twin of the packet.
-    fn has_twin(&self, octets: &[u8]) -> bool
-        ensures { result ≡ spec.has_twin octets.now (plain_twins self.now).recent }
-    {
+    fn has_twin(&self, octets: &[u8]) -> bool {
         let first = is_twin(octets, self.first.as_slice());
         let second = is_twin(octets, self.second.as_slice());
         let third = is_twin(octets, self.third.as_slice());
@@ -88,9 +76,7 @@ impl Twins {
 }
 
 // Returns whether a packet can be told from the next one of its sender.
-fn is_candidate(flow: Flow) -> bool
-    ensures { result ≡ spec.is_candidate flow }
-{
+fn is_candidate(flow: Flow) -> bool {
     let known = matches!(
         flow.protocol,
         protocol::ICMP | protocol::TCP | protocol::UDP
@@ -100,9 +86,7 @@ fn is_candidate(flow: Flow) -> bool
 
 // Returns whether two packets are equal but for the time to live and the header checksum. The low
 // octet of the identification tells most packets apart.
-fn is_twin(a: &[u8], b: &[u8]) -> bool
-    ensures { result ≡ spec.is_twin a.now b.now }
-{
+fn is_twin(a: &[u8], b: &[u8]) -> bool {
     octet_at(a, 5) == octet_at(b, 5)
         && octet_at(a, 9) == octet_at(b, 9)
         && front(a) == front(b)
@@ -110,15 +94,11 @@ fn is_twin(a: &[u8], b: &[u8]) -> bool
 }
 
 // Returns the octets before the time to live.
-fn front(octets: &[u8]) -> &[u8]
-    ensures { result.now ≡ take 8 octets.now }
-{
+fn front(octets: &[u8]) -> &[u8] {
     &octets[..octets.len().min(8)]
 }
 
 // Returns the octets behind the header checksum.
-fn behind(octets: &[u8]) -> &[u8]
-    ensures { result.now ≡ drop 12 octets.now }
-{
+fn behind(octets: &[u8]) -> &[u8] {
     &octets[octets.len().min(12)..]
 }

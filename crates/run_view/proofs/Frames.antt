@@ -18,20 +18,20 @@ use Rattle.pcap_file.specs.Reads.{Advances, FailsWith, HasEnd, HasFlaw, IfRecord
 use Rattle.pcap_file.specs.ReadsHead.{Begins, ReadsHead}
 use Rattle.capture_input.specs.declared.fault.InputFault.TheVariants as faults
 use Rattle.capture_input.specs.Faults.{is_read_fault, of_flaw, of_head, of_record}
+use Rattle.pcap_file.proofs.Captures.{flaw_no_end}
 use Rattle.frame_view.specs.Changes.{plain}
-use Rattle.run_view.specs.SourceStops.{output_stop}
-use Rattle.edge_io.specs.Seen.{Seen, seen_of}
-use Rattle.run_view.specs.Sources.{OutputFailsBehind, OutputUnread, TookFrames}
-use Rattle.run_view.specs.Standing.{OutputAt, OutputHeadStops, OutputReads, OutputStops}
+use Rattle.run_view.specs.Gives.{TookFrames}
+use Rattle.run_view.specs.Items.{changes_at, changes_in}
+use Rattle.run_view.specs.Runs.{IsNoCapture}
+use Rattle.run_view.specs.Standing.{OutputAt, OutputHeadStop, OutputReads, OutputStop}
+use Rattle.run_view.specs.Steps.{FrameAdded, FrameStop, FramesRead, FramesStop, IsGathered}
+use Rattle.run_view.specs.Stops.{output_stop}
 use Rattle.run_view.specs.declared.stop.Stop.TheVariants as stops
 use Rattle.run_view.specs.declared.item.Frames.{Frames}
 use Rattle.run_view.specs.declared.item.Gathered.{Gathered}
-use Rattle.run_view.specs.declared.item.Wants.{Wants}
 use Rattle.run_view.specs.declared.judged.Kinds.{Kinds}
-use Rattle.run_view.specs.Eras.{plus}
-use Rattle.run_view.specs.Items.{begun_by, changes_at, changes_in, first_flow, flow_at, octets_in, tcp_octets}
 use Rattle.run_view.specs.declared.stop.Stop.{Stop}
-use Rattle.run_view.specs.Steps.{FrameAdded, FrameStops, FramesRead, FramesStop, IsGathered}
+use Rattle.run_view.proofs.Stopping.{says_more}
 
 -- Reading the frames of the output.
 
@@ -42,23 +42,18 @@ head_taken (Some octets) None head begins = begins
 head_taken (Some octets) (Some rest) head begins = (begins.0, sym begins.1)
 
 -- a flaw of the head
-head_fails : (all left : Option (List ℕ)) (flaw : classic.Flaw) → Begins all left (Err flaw)
-    → IfSome all (λ octets. (own : classic.Flaw) × (of_flaw flaw ≡ of_flaw own) × (head_of octets ≡ Err own))
+head_fails : (all left : Option (List ℕ)) (flaw : classic.Flaw) → Begins all left (Err flaw) → IsNoCapture all
 head_fails None left flaw begins = tt
 head_fails (Some octets) None flaw begins = absurd begins
-head_fails (Some octets) (Some rest) flaw begins = (flaw, refl, begins.0)
+head_fails (Some octets) (Some rest) flaw begins = λ head frames is. let one = begins.0 in let two = is.accepted in cc
 
 pub head_stops : (link : Link) (all left : Option (List ℕ)) (before after : ℕ) (fault : HeadFault) → ReadsHead all left (Err fault)
-    → (fault ≡ heads.ReadFault → Rose before after) → OutputHeadStops link all before (seen_of left after) (output_stop (of_head fault) 0)
-head_stops link all left before after heads.Cut reads rose =
-    inl (record { own = refl; has = head_fails all left classic.cut_short reads; place = refl })
-head_stops link all left before after heads.Magic reads rose =
-    inl (record { own = refl; has = head_fails all left classic.bad_magic reads; place = refl })
-head_stops link all left before after heads.Version reads rose =
-    inl (record { own = refl; has = head_fails all left classic.bad_version reads; place = refl })
-head_stops link all left before after heads.Link reads rose =
-    inl (record { own = refl; has = head_fails all left classic.bad_link reads; place = refl })
-head_stops link all left before after heads.ReadFault reads rose = record { rose = rose refl; part = reads }
+    → (fault ≡ heads.ReadFault → Rose before after) → OutputHeadStop link all before after (output_stop (of_head fault) 0)
+head_stops link all left before after heads.Cut reads rose = record { is = (refl, inl (head_fails all left classic.cut_short reads)) }
+head_stops link all left before after heads.Magic reads rose = record { is = (refl, inl (head_fails all left classic.bad_magic reads)) }
+head_stops link all left before after heads.Version reads rose = record { is = (refl, inl (head_fails all left classic.bad_version reads)) }
+head_stops link all left before after heads.Link reads rose = record { is = (refl, inl (head_fails all left classic.bad_link reads)) }
+head_stops link all left before after heads.ReadFault reads rose = record { is = rose refl }
 
 -- the head has another link
 accepted : (all left : Option (List ℕ)) (head : Head) → Begins all left (Ok head) → IfSome all (λ octets. head_of octets ≡ Ok head)
@@ -66,10 +61,10 @@ accepted None left head begins = tt
 accepted (Some octets) None head begins = absurd begins
 accepted (Some octets) (Some rest) head begins = begins.0
 
-pub other_link : (link : Link) (all left : Option (List ℕ)) (before : ℕ) (now : Seen) (head : Head) → Begins all left (Ok head) → head.link ≢ link
-    → OutputHeadStops link all before now (stops.Output faults.Link 0)
+pub other_link : (link : Link) (all left : Option (List ℕ)) (before now : ℕ) (head : Head) → Begins all left (Ok head) → head.link ≢ link
+    → OutputHeadStop link all before now (stops.Output faults.Link 0)
 other_link link all left before now head begins other =
-    inr (record { head = head; accepted = accepted all left head begins; other = other; fault_is = refl; place = refl })
+    record { is = (refl, inr (record { head = head; accepted = accepted all left head begins; other = other })) }
 
 -- one frame more was taken
 took_more : (all before after : Option (List ℕ)) (head : Head) (frames : List Packet) (frame : Packet) → TookFrames all before head frames
@@ -106,64 +101,45 @@ reads_frame old new head all before after frames (Some given) reads advances sam
       head_is = same ∙ at.head_is;
     }
 
+no_capture : (all left : Option (List ℕ)) (head : Head) (frames : List Packet) (flaw : classic.Flaw) → TookFrames all left head frames
+    → HasFlaw head.order (length frames) left flaw → IsNoCapture all
+no_capture None left head frames flaw took flawed = tt
+no_capture (Some octets) None head frames flaw took flawed = absurd took
+no_capture (Some octets) (Some rest) head frames flaw took flawed =
+    λ other others is. flaw_no_end octets other others flaw (offset_of frames) is
+    (inr (record { head = head; packets = frames; rest = rest; accepted = took.0; reads = took.1; flawed = flawed; place = refl }))
+
 flawed_in : (old : Reading) (head : Head) (all before : Option (List ℕ)) (frames : List Packet) (flaw : classic.Flaw)
-    → is_read_fault (of_flaw flaw) ≡ false
-    → HasFlaw old.head.order old.given before flaw → OutputAt old head all before frames → OutputFailsBehind all head frames (of_flaw flaw) old.place
-flawed_in old head all before frames flaw own flawed at =
+    → HasFlaw old.head.order old.given before flaw → OutputAt old head all before frames → IsNoCapture all
+flawed_in old head all before frames flaw flawed at =
     let order : old.head.order ≡ head.order = ap (λ (h : Head). h.order) at.head_is in
     let flawed_so : HasFlaw head.order (length frames) before flaw = rw (← order, ← at.given_is) flawed in
-    record { own = own; flaw = flaw; fault_is = refl; left = before; took = at.took; flawed = flawed_so; place = at.place_is }
+    no_capture all before head frames flaw at.took flawed_so
 
 -- a fault behind the frames
 pub frame_stops : (old : Reading) (head : Head) (all before after : Option (List ℕ)) (frames : List Packet) (then_ now offset : ℕ)
     (fault : RecordFault)
-    → FailsWith old.head.order old.given before after fault → (fault ≡ records.ReadFault → Rose then_ now) → offset ≡ old.place
-    → OutputAt old head all before frames → OutputStops all head frames then_ (seen_of after now) (output_stop (of_record fault) offset)
-frame_stops old head all before after frames then_ now offset records.Cut fails rose place at =
-    rw place (flawed_in old head all before frames classic.cut_short refl fails.flawed at)
-frame_stops old head all before after frames then_ now offset records.Long fails rose place at =
-    rw place (flawed_in old head all before frames classic.too_long refl fails.flawed at)
-frame_stops old head all before after frames then_ now offset records.TooMany fails rose place at =
-    rw place (flawed_in old head all before frames classic.too_many refl fails.flawed at)
-frame_stops old head all before after frames then_ now offset records.ReadFault fails rose place at =
-    let T : Head → Type 0 = λ h. TakesPart h.order before after in
-    record { rose = rose refl; left = before; took = at.took; part = subst T at.head_is fails }
+    → FailsWith old.head.order old.given before after fault → (fault ≡ records.ReadFault → Rose then_ now)
+    → OutputAt old head all before frames → OutputStop all then_ now (output_stop (of_record fault) offset)
+frame_stops old head all before after frames then_ now offset records.Cut fails rose at =
+    record { is = (refl, flawed_in old head all before frames classic.cut_short fails.flawed at) }
+frame_stops old head all before after frames then_ now offset records.Long fails rose at =
+    record { is = (refl, flawed_in old head all before frames classic.too_long fails.flawed at) }
+frame_stops old head all before after frames then_ now offset records.TooMany fails rose at =
+    record { is = (refl, flawed_in old head all before frames classic.too_many fails.flawed at) }
+frame_stops old head all before after frames then_ now offset records.ReadFault fails rose at = record { is = rose refl }
 
 -- What is gathered of the frames of a record, one by one.
 
-begun_so : (link : Link) (octets : List ℕ) (own : List Packet) (frame : Packet)
-    → first_flow (length own) (flow_at link frame.octets) (begun_by link octets own) ≡ begun_by link octets (frame ∷ own)
-begun_so link octets [] frame = refl
-begun_so link octets (next ∷ own) frame =
-    let some : (length (next ∷ own) == 0) ≡ false = grind arith in
-    ap (λ b. if b then flow_at link frame.octets else begun_by link octets (next ∷ own)) some
-
 pub gathered_more : (link : Link) (kinds : Kinds) (octets : List ℕ) (own : List Packet) (packet : Packet) (old new : Gathered) (number : ℕ)
     (frame : List ℕ) → length own ≡ number → packet.octets ≡ frame
-    → map plain new.changes.items ≡ map plain old.changes.items ++ changes_at link kinds (number + 1) octets frame → new.wants ≡ old.wants
-    → (old.wants.flow ≡ true → new.flow ≡ first_flow number (flow_at link frame) old.flow)
-    → (old.wants.octets ≡ true → new.octets ≡ plus old.octets (tcp_octets (flow_at link frame)))
+    → map plain new.changes.items ≡ map plain old.changes.items ++ changes_at link kinds (number + 1) octets frame
     → IsGathered link kinds octets own old → IsGathered link kinds octets (packet ∷ own) new
-gathered_more link kinds octets own packet old new number frame count same changes wants flow octets_are before =
-    record {
-      changes =
-          changes
-          ∙ ap (λ cs. cs ++ changes_at link kinds (number + 1) octets frame) before.changes
-          ∙ ap (λ n. changes_in link kinds octets own ++ changes_at link kinds (n + 1) octets frame) (sym count)
-          ∙ ap (λ f. changes_in link kinds octets own ++ changes_at link kinds (length own + 1) octets f) (sym same);
-      flow =
-          λ is.
-          flow (ap (λ (w : Wants). w.flow) (sym wants) ∙ is)
-          ∙ ap (λ f. first_flow number (flow_at link frame) f) (before.flow (ap (λ (w : Wants). w.flow) (sym wants) ∙ is))
-          ∙ ap (λ n. first_flow n (flow_at link frame) (begun_by link octets own)) (sym count)
-          ∙ ap (λ f. first_flow (length own) (flow_at link f) (begun_by link octets own)) (sym same)
-          ∙ begun_so link octets own packet;
-      octets_are =
-          λ is.
-          octets_are (ap (λ (w : Wants). w.octets) (sym wants) ∙ is)
-          ∙ ap (λ n. plus n (tcp_octets (flow_at link frame))) (before.octets_are (ap (λ (w : Wants). w.octets) (sym wants) ∙ is))
-          ∙ ap (λ f. plus (octets_in link own) (tcp_octets (flow_at link f))) (sym same);
-    }
+gathered_more link kinds octets own packet old new number frame count same changes before =
+    changes
+    ∙ ap (λ cs. cs ++ changes_at link kinds (number + 1) octets frame) before
+    ∙ ap (λ n. changes_in link kinds octets own ++ changes_at link kinds (n + 1) octets frame) (sym count)
+    ∙ ap (λ f. changes_in link kinds octets own ++ changes_at link kinds (length own + 1) octets f) (sym same)
 
 -- one frame more of those that were read
 pub read_more : (frames : Frames) (all left : Option (List ℕ)) (head : Head) (older own : List Packet) (link : Link) (kinds : Kinds) (octets : List ℕ)
@@ -175,25 +151,12 @@ read_more frames all left head older own link kinds octets number gathered count
     record { own = added.frame ∷ own; count = counted; stands = added.stands; gathers = added.gathers }
 
 -- a frame of a record was not read, behind those of it that were
-pub own_stops : (first frames : Frames) (all left : Option (List ℕ)) (head : Head) (older : List Packet) (link : Link) (kinds : Kinds)
-    (octets : List ℕ) (number packets : ℕ) (gathered : Gathered)
-    (before mid : ℕ) (now : Seen) (stop : Stop) → frames.count ≡ first.count + number → number < packets → mid ≡ before
+pub own_stops : (frames : Frames) (all left : Option (List ℕ)) (head : Head) (older : List Packet) (link : Link) (kinds : Kinds)
+    (octets : List ℕ) (number packets : ℕ) (gathered : Gathered) (before mid now : ℕ) (stop : Stop) → number < packets → mid ≡ before
     → FramesRead frames all left head older link kinds octets number gathered
-    → ((behind : List Packet) → OutputAt frames.reader head all left behind → FrameStops frames all head behind mid now stop)
-    → FramesStop first all head older packets before now stop
-own_stops first frames all left head older link kinds octets number packets gathered before mid now (stops.Frame n) count fewer kept read why =
-    let missing = why (read.own ++ older) read.stands in
+    → ((behind : List Packet) → OutputAt frames.reader head all left behind → FrameStop all head behind mid now stop)
+    → FramesStop all head older packets before now stop
+own_stops frames all left head older link kinds octets number packets gathered before mid now stop fewer kept read why =
     let short : length read.own < packets = omega (arith, read.count, fewer) in
-    let place : n ≡ (first.count + length read.own) + 1 = omega (arith, missing.place, count, read.count) in
-    record { own = read.own; fewer = short; missing = record { whole = missing.whole; place = place } }
-own_stops first frames all left head older link kinds octets number packets gathered before mid now stops.Memory count fewer kept read why = tt
-own_stops first frames all left head older link kinds octets number packets gathered before mid now (stops.Output fault offset) count fewer kept read
-    why =
-    let short : length read.own < packets = omega (arith, read.count, fewer) in
-    record { own = read.own; fewer = short; fails = why (read.own ++ older) read.stands }
-own_stops first frames all left head older link kinds octets number packets gathered before mid now stops.Unread count fewer kept read why =
-    let U : ℕ → Type 0 = λ n. OutputUnread all head (read.own ++ older) n now in
-    let short : length read.own < packets = omega (arith, read.count, fewer) in
-    record { own = read.own; fewer = short; unread = subst U kept (why (read.own ++ older) read.stands) }
-own_stops first frames all left head older link kinds octets number packets gathered before mid now _ count fewer kept read why =
-    absurd (why (read.own ++ older) read.stands)
+    says_more (λ x. x) (λ ends. record { own = read.own; fewer = short; ends = ends }) (λ x. x) (λ x. x) (λ rose. subst (λ n. Rose n now) kept rose) (λ x. x) stop
+    (why (read.own ++ older) read.stands)

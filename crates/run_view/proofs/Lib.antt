@@ -1,26 +1,19 @@
-pub mod Fronts
-pub mod Lining
-pub mod Amiss
-pub mod Records
-pub mod Tables
-pub mod Frames
-pub mod Counted
-pub mod Shown
-pub mod Taken
-pub mod Going
-pub mod Ending
-pub mod Widenings
-pub mod Whys
-pub mod Heads
-pub mod Listing
-pub mod Counting
-pub mod Ons
-pub mod Views
-pub mod Commas
-pub mod Starting
-pub mod Telling
-pub mod EraRows
-pub mod Numbered
-pub mod Fates
-pub mod Reasons
-pub mod OneStop
+mod Commas
+mod Ending
+mod Finished
+mod Frames
+mod Fronts
+mod Heads
+mod LineTaken
+mod Lining
+mod NextLine
+mod NoStops
+mod Numbered
+mod OtherLines
+mod Records
+mod Results
+mod Shown
+mod Sizes
+mod Starting
+mod Stopping
+mod ReportNext

@@ -8,7 +8,7 @@ use Rattle.std.proofs.lemmas.List.{drop-drop, length-append, length-drop, length
 use Rattle.std.proofs.Math.Seq.{take-add, take-append-add}
 use Rattle.edge_io.specs.Octets.{TakesFewer}
 use Rattle.run_view.specs.Ahead.{GoesOn, TookLine}
-use Rattle.run_view.specs.Causes.{IsSomeOctet}
+use Rattle.run_view.specs.Gives.{IsSomeOctet}
 use Rattle.run_view.specs.Lines.{front_line}
 
 -- the octet is a line feed

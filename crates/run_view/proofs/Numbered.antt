@@ -8,7 +8,7 @@ use Rattle.rule_book.specs.Reports.{EntryFits, IsEntryOf}
 use Rattle.rule_book.specs.Text.{entry_text, last_text}
 use Rattle.rule_book.specs.declared.last.Last.TheVariants.{End}
 use Rattle.rule_book.proofs.Unique.{entry_no_last, entry_one}
-use Rattle.run_view.specs.Causes.{frames_by}
+use Rattle.run_view.proofs.ReportNext.{frames_by}
 use Rattle.run_view.specs.Forms.{answers, version_of}
 use Rattle.run_view.specs.Items.{AreItems, IsFirstLine, IsOfNewest, IsSecondLine, Item, Line, firsts, frames_of, is_second, lines_of, lines_text, owed_of, packets_in, packets_of, seconds, text_by, turn_at, turn_of, waits}
 use Rattle.run_view.specs.declared.form.Form.{Form}

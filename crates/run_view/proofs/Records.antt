@@ -4,7 +4,7 @@ use Rattle.pcap_file.specs.declared.head.Head.{Head}
 use Rattle.pcap_file.specs.Reading.{Reading}
 use Rattle.pcap_file.specs.Reads.{shown}
 use Rattle.pcap_file.specs.Records.{Packet}
-use Rattle.capture_input.specs.Inputs.{FailsAt, IsFlawed, Took, Walk, FailsInHead}
+use Rattle.capture_input.specs.Inputs.{FailsInHead, IsFlawed, Took, Walk, place_behind}
 use Rattle.capture_input.specs.declared.fault.InputFault.{InputFault}
 use Rattle.capture_input.specs.declared.input.Input.{Input}
 use Rattle.edge_io.specs.Faults.{Rose}
@@ -16,10 +16,11 @@ use Rattle.capture_input.specs.Laws.{WholeIsInput}
 use Rattle.capture_input.proofs.Stops.{before_interface, block_flawed, not_read, record_flawed, refuses}
 use Rattle.capture_input.specs.Reading.{Behind, asked_in, head_in}
 use Rattle.capture_input.specs.Reads.{GivesPacket, ReachesEnd, Reads, StopsAt, StopsInHead}
-use Rattle.edge_io.specs.Seen.{Seen, seen_of}
-use Rattle.run_view.specs.Sources.{BeginsWithFrames, BeginsWithRecords, InputFailsBehind, InputHeadFails, InputHeadUnread, InputUnread}
-use Rattle.run_view.specs.Standing.{InputAt, OutputAt, InputHeadStops, InputReads, InputStops}
-use Rattle.run_view.specs.SourceStops.{input_stop}
+use Rattle.capture_input.proofs.Inputs.{fault_no_end}
+use Rattle.run_view.proofs.ReportNext.{BeginsWithFrames, BeginsWithRecords}
+use Rattle.run_view.specs.Runs.{IsNoInput}
+use Rattle.run_view.specs.Standing.{InputAt, InputReads, InputStop, OutputAt}
+use Rattle.run_view.specs.Stops.{input_stop}
 
 -- What a source begins with.
 
@@ -34,17 +35,16 @@ frames_at reader head all left frames at = record { left = left; took = at.took 
 -- Reading the records of the input.
 
 -- a fault of the octets, or of the source, is what the stop says
-head_so : (all : Option (List ℕ)) (before : ℕ) (now : Seen) (fault : InputFault) (offset : ℕ)
-    → (is_read_fault fault ≡ false → InputHeadFails all fault offset) → (fault ≡ faults.ReadFault → InputHeadUnread all before now)
-    → InputHeadStops all before now (input_stop fault offset)
-head_so all before now faults.ReadFault offset fails unread = unread refl
-head_so all before now _ offset fails unread = fails refl
-
-stops_so : (all : Option (List ℕ)) (head : Head) (packets : List Packet) (before : ℕ) (now : Seen) (fault : InputFault) (offset : ℕ)
-    → (is_read_fault fault ≡ false → InputFailsBehind all head packets fault offset)
-    → (fault ≡ faults.ReadFault → InputUnread all head packets before now) → InputStops all head packets before now (input_stop fault offset)
-stops_so all head packets before now faults.ReadFault offset fails unread = unread refl
-stops_so all head packets before now _ offset fails unread = fails refl
+stop_so : (all : Option (List ℕ)) (before now : ℕ) (fault : InputFault) (offset : ℕ) → (is_read_fault fault ≡ false → IsNoInput all)
+    → (fault ≡ faults.ReadFault → Rose before now) → InputStop all before now (input_stop fault offset)
+stop_so all before now faults.ReadFault offset fails unread = record { is = unread refl }
+stop_so all before now faults.Cut offset fails unread = record { is = (refl, fails refl) }
+stop_so all before now faults.Magic offset fails unread = record { is = (refl, fails refl) }
+stop_so all before now faults.Version offset fails unread = record { is = (refl, fails refl) }
+stop_so all before now faults.Link offset fails unread = record { is = (refl, fails refl) }
+stop_so all before now faults.Block offset fails unread = record { is = (refl, fails refl) }
+stop_so all before now faults.Long offset fails unread = record { is = (refl, fails refl) }
+stop_so all before now faults.Many offset fails unread = record { is = (refl, fails refl) }
 
 -- the head
 head_fails : (all now : Option (List ℕ)) (fault : InputFault) (offset : ℕ) → is_read_fault fault ≡ false → StopsInHead None all now fault offset
@@ -56,13 +56,15 @@ head_fails (Some xs) (Some ys) fault offset own (inl p) =
 head_fails (Some xs) None fault offset own (inr p) = inr (before_interface None xs p.stops.between None fault offset own p refl)
 head_fails (Some xs) (Some ys) fault offset own (inr p) = inr (before_interface None xs p.stops.between (Some ys) fault offset own p refl)
 
+no_input_at : (all : Option (List ℕ)) (fault : InputFault) (offset : ℕ) → IfSome all (λ octets. FailsInHead None octets fault offset) → IsNoInput all
+no_input_at None fault offset fails = tt
+no_input_at (Some octets) fault offset fails = λ head packets is. fault_no_end None octets head packets fault offset is (inl fails)
+
 pub head_stops : (all now : Option (List ℕ)) (before after : ℕ) (fault : InputFault) (offset : ℕ)
     → StopsInHead None all now fault offset → (is_read_fault fault ≡ true → Rose before after)
-    → InputHeadStops all before (seen_of now after) (input_stop fault offset)
+    → InputStop all before after (input_stop fault offset)
 head_stops all now before after fault offset stops rose =
-    head_so all before (seen_of now after) fault offset (λ own. record { own = own; has = head_fails all now fault offset own stops })
-    (λ is.
-    record { rose = rose (ap is_read_fault is); offset = offset; part = subst (λ f. StopsInHead None all now f offset) is stops })
+    stop_so all before after fault offset (λ own. no_input_at all fault offset (head_fails all now fault offset own stops)) (λ is. rose (ap is_read_fault is))
 
 -- the next record
 given_more : (old new : Input) (head : Head) (all before after : Option (List ℕ)) (packets : List Packet) (given : Record)
@@ -107,34 +109,25 @@ flawed_behind head (walks.records packets) (Some ys) after fault own stops =
 flawed_behind head (walks.blocks steps) (Some ys) after fault own stops =
     record { flaw = stops.cause; flawed = block_flawed None _ ys after stops.cause (not_read fault stops.cause stops.is own) stops.stops; is = stops.is }
 
+no_input_behind : (all left : Option (List ℕ)) (head : Head) (walk : Walk) (fault : InputFault) → Took None all left head walk
+    → IfSome left (λ rest. IsFlawed None head walk rest fault) → IsNoInput all
+no_input_behind None left head walk fault took flawed = tt
+no_input_behind (Some octets) None head walk fault took flawed = absurd took
+no_input_behind (Some octets) (Some rest) head walk fault took flawed =
+    λ other packets is. fault_no_end None octets other packets fault (place_behind walk) is
+    (inr (record { head = head; walk = walk; rest = rest; begins = took; flawed = flawed; place = refl }))
+
 pub record_stops : (old new : Input) (head : Head) (all before after : Option (List ℕ)) (packets : List Packet) (then_ now : ℕ) (fault : InputFault)
     → ((inside : Option (List ℕ)) (walk : Walk) → Behind old inside walk → Reads old new inside walk before after (Err fault))
-    → InputAt old head all before packets → (is_read_fault fault ≡ true → Rose then_ now)
-    → InputStops all head packets then_ (seen_of after now) (input_stop fault (asked_in new))
+    → InputAt old head all before packets → (is_read_fault fault ≡ true → Rose then_ now) → InputStop all then_ now (input_stop fault (asked_in new))
 record_stops old new head all before after packets then_ now fault reads at rose =
     let stops = reads None at.walk at.behind in
     let Q : Head → Type 0 = λ h. Took None all before h at.walk in
     let P : Head → Type 0 = λ h. Took None all stops.between h stops.farther in
     let F : Head → Type 0 = λ h. IfSome stops.between (λ rest. IsFlawed None h stops.farther rest fault) in
-    let S : Head → Type 0 = λ h. StopsAt None h stops.farther stops.between after fault in
     let took = subst P at.head_is (stops.continues all (subst Q (sym at.head_is) at.took)) in
-    stops_so all head packets then_ (seen_of after now) fault (asked_in new)
+    stop_so all then_ now fault (asked_in new)
     (λ own.
-    record {
-      own = own;
-      walk = stops.farther;
-      left = stops.between;
-      took = took;
-      packets_are = stops.silent ∙ at.packets_are;
-      flawed = subst F at.head_is (flawed_behind (head_in old) stops.farther stops.between after fault own stops.why);
-      place = stops.place;
-    })
-    (λ is.
-    record {
-      rose = rose (ap is_read_fault is);
-      walk = stops.farther;
-      left = stops.between;
-      took = took;
-      packets_are = stops.silent ∙ at.packets_are;
-      part = subst (λ f. StopsAt None head stops.farther stops.between after f) is (subst S at.head_is stops.why);
-    })
+    no_input_behind all stops.between head stops.farther fault took
+    (subst F at.head_is (flawed_behind (head_in old) stops.farther stops.between after fault own stops.why)))
+    (λ is. rose (ap is_read_fault is))

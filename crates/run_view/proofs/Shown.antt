@@ -1,49 +1,66 @@
--- What is printed with one more line of a run.
-use Rattle.std.proofs.Common.{◌≡◌, ℕ, zero, suc, ◌==◌, ◌&&◌, Bool, true, false, List, [], ◌∷◌, refl, sym, ap, ◌∙◌, arith, length, string_bytes, if◌then◌else◌}
+-- What is shown with one more line of a run.
+use Rattle.std.proofs.Common.{◌≡◌, ℕ, zero, suc, ◌==◌, ◌&&◌, Bool, true, false, List, [], ◌∷◌, ◌++◌, refl, sym, ap, ◌∙◌, arith, length, append-nil, append_assoc, if◌then◌else◌}
+use Rattle.std.specs.Prelude.{Option, Some, None, map}
+use Rattle.edge_io.specs.Faults.{next_count}
 use Rattle.pcap_file.specs.declared.head.Head.{Head}
 use Rattle.pcap_file.specs.Records.{Packet}
-use Rattle.rule_book.specs.Entries.{PlainEntry, plain}
-use Rattle.rule_book.specs.declared.entry.Entry.{Entry}
+use Rattle.rule_book.specs.Entries.{PlainEntry}
+use Rattle.view_text.specs.Lines.{PlainLine, plain_line}
 use Rattle.run_view.specs.declared.form.Form.{Form}
 use Rattle.run_view.specs.declared.item.Gathered.{Gathered}
 use Rattle.run_view.specs.declared.chosen.Meets.{Meets}
 use Rattle.run_view.specs.declared.show.Printing.{Printing}
 use Rattle.run_view.specs.declared.words.Asked.{Asked}
-use Rattle.run_view.specs.Eras.{plus}
+use Rattle.run_view.specs.Chosen.{meets_all, meets_record, met_of, prints_records}
+use Rattle.run_view.specs.Events.{Event, Shows, chosen_of, ends_chosen, is_given, line_shown, newest_event, of_record, record_lines}
 use Rattle.run_view.specs.Items.{Item, by_first, flow_at, frames_of, is_second, kinds_in, length_at, time_of, type_without, waits}
-use Rattle.run_view.specs.Printed.{record_shown}
+use Rattle.run_view.specs.Shows.{NotesLine, PlainShown, due_event, is_shown, line_of_shown}
 use Rattle.run_view.specs.SoFar.{PrintsSo}
 use Rattle.run_view.specs.Steps.{IsGathered}
-use Rattle.run_view.specs.Chosen.{meets_all, meets_record, met_of, prints_records}
-use Rattle.run_view.specs.Shows.{NotesLine, due_text, is_shown, may_be_printed}
-use Rattle.run_view.specs.View.{ends_printed, is_given, newest_text, printed_of, record_of, record_text}
 
--- these are the octets and the time of a record
-pub record IsOf (head : Head) (packet : Packet) (octets : List ℕ) (time : ℕ) : Type 0 where
-  pub octets_are : octets ≡ packet.octets
-  pub time_is : time ≡ time_of head packet
+-- ---- events, one after another
 
--- what is printed of a line is what its item says
-pub shown_is : (given : Bool) (number time : ℕ) (octets : List ℕ) (entry : Entry) (count : ℕ) (gathered : Gathered) (form : Form) (head : Head)
-    (item : Item) (older : List Item)
-    → item.entry ≡ plain entry → given ≡ is_given form (is_second item) → number ≡ (by_first item).number → count ≡ length (frames_of older)
-    → IsOf head item.packet octets time → IsGathered head.link (kinds_in item) item.packet.octets item.frames gathered
-    → record_shown (is_second item) given number time head.link octets entry count gathered ≡ record_of form head item older
-shown_is given number time octets entry count gathered form head item older same given_is number_is count_is is gathers =
-    let own = ap (λ (e : PlainEntry). e.number) (sym same) in
+pub shows_none : (shown : Option (List Event)) → Shows shown shown []
+shows_none None = tt
+shows_none (Some events) = sym (append-nil events)
+
+pub shows_more : (old mid new : Option (List Event)) (first more : List Event) → Shows old mid first → Shows mid new more → Shows old new (first ++ more)
+shows_more None mid new first more one two = tt
+shows_more (Some x) None new first more one two = absurd one
+shows_more (Some x) (Some y) None first more one two = two
+shows_more (Some x) (Some y) (Some z) first more one two = two ∙ ap (λ l. l ++ more) one ∙ append_assoc x first more
+
+-- ---- the lines of a record
+
+-- this is a line of the item, with the octets and the time of its record
+pub record IsOf (form : Form) (head : Head) (item : Item) (older : List Item) (shown : PlainShown) : Type 0 where
+  pub second_is : shown.second ≡ is_second item
+  pub given_is : shown.given ≡ is_given form (is_second item)
+  pub number_is : shown.number ≡ (by_first item).number
+  pub time_is : shown.time ≡ time_of head item.packet
+  pub link_is : shown.link ≡ head.link
+  pub octets_are : shown.octets ≡ item.packet.octets
+  pub entry_is : shown.entry ≡ item.entry
+  pub before_is : shown.before ≡ length (frames_of older)
+
+-- what is shown of a line is what its item says
+pub shown_is : (form : Form) (head : Head) (item : Item) (older : List Item) (shown : PlainShown) (gathered : Gathered) → IsOf form head item older shown
+    → IsGathered head.link (kinds_in item) item.packet.octets item.frames gathered
+    → line_of_shown shown gathered ≡ line_shown form head item older
+shown_is form head item older shown gathered is gathers =
     λ i.
     record {
-      number = number_is i;
-      second = is_second item;
-      own = own i;
+      number = is.number_is i;
+      second = is.second_is i;
+      own = (is.entry_is i).number;
       time = is.time_is i;
-      flow = flow_at head.link (is.octets_are i);
-      ethertype = type_without (flow_at head.link (is.octets_are i)) head.link (is.octets_are i);
-      length = length_at head.link (is.octets_are i);
-      entry = sym same i;
-      given = given_is i;
-      before = count_is i;
-      changes = gathers.changes i;
+      flow = flow_at (is.link_is i) (is.octets_are i);
+      ethertype = type_without (flow_at (is.link_is i) (is.octets_are i)) (is.link_is i) (is.octets_are i);
+      length = length_at (is.link_is i) (is.octets_are i);
+      entry = is.entry_is i;
+      given = is.given_is i;
+      before = is.before_is i;
+      changes = gathers i;
     }
 
 left_part : (a b : Bool) → (a && b) ≡ true → a ≡ true
@@ -54,59 +71,47 @@ right_part : (a b : Bool) → (a && b) ≡ true → b ≡ true
 right_part true b is = is
 right_part false b is = cc
 
--- whether the lines of a record are printed with its newest line
+-- whether the lines of a record are shown with its newest line
 shown_same : (asked : Asked) (head : Head) (item : Item) (older : List Item) (met : Meets)
     → (prints_records asked ≡ true → met ≡ met_of asked head (item ∷ older))
-    → is_shown asked item.owed met ≡ ends_printed asked head (item ∷ older)
+    → is_shown asked item.owed met ≡ ends_chosen asked head (item ∷ older)
 shown_same asked head item older met same = by (prints_records asked) same where
   by : (b : Bool) → (b ≡ true → met ≡ met_of asked head (item ∷ older))
       → ((item.owed == 0) && (b && meets_all met)) ≡ ((item.owed == 0) && (b && meets_all (met_of asked head (item ∷ older))))
   by true same = λ i. (item.owed == 0) && meets_all (same refl i)
   by false same = refl
 
--- one line more was noted; what is to be printed with it is due
+-- one line more was noted; what is to be shown with it is due
 pub record PrintsMore (printing : Printing) (asked : Asked) (form : Form) (head : Head) (item : Item) (older : List Item) : Type 0 where
   pub so : PrintsSo printing asked form head item.owed (item ∷ older)
-  pub due : due_text printing ≡ newest_text asked form head (item ∷ older)
+  pub due : due_event printing ≡ newest_event asked form head (item ∷ older)
 
-not_last : (owed : ℕ) → waits owed ≡ true → (owed == 0) ≡ false
-not_last zero waiting = cc
-not_last (suc n) waiting = grind arith
-
-pub prints_more : (old new : Printing) (asked : Asked) (form : Form) (head : Head) (item : Item) (older : List Item) (met : Meets) (text : List ℕ)
-    → old.records ≡ printed_of asked head older → (prints_records asked ≡ true → met ≡ met_of asked head (item ∷ older))
-    → (prints_records asked ≡ true → meets_record met ≡ true → text ≡ record_text asked form head (item ∷ older))
-    → NotesLine old new asked item.owed met text → PrintsMore new asked form head item older
-prints_more old new asked form head item older met text counted mets texts notes =
-    let lines = item ∷ older in
+pub prints_more : (old new : Printing) (asked : Asked) (form : Form) (head : Head) (item : Item) (older : List Item) (met : Meets) (lines : List PlainLine)
+    → old.records ≡ chosen_of asked head older → (prints_records asked ≡ true → met ≡ met_of asked head (item ∷ older))
+    → (prints_records asked ≡ true → meets_record met ≡ true → lines ≡ record_lines form head (item ∷ older))
+    → NotesLine old new asked item.owed met lines → PrintsMore new asked form head item older
+prints_more old new asked form head item older met lines counted mets are notes =
     let same = shown_same asked head item older met mets in
     record {
       so =
           record {
-            count = notes.count ∙ (λ i. if same i then plus (counted i) 1 else counted i);
+            count = notes.count ∙ (λ i. if same i then next_count (counted i) else counted i);
             lines =
                 λ waiting prints.
                 record {
                   met = notes.met_is prints ∙ mets prints;
-                  text = λ meets. let own = ap meets_record (mets prints) ∙ meets in
-                      notes.text_is prints (may (not_last item.owed waiting) own) ∙ texts prints own;
+                  lines = λ meets. let own = ap meets_record (mets prints) ∙ meets in notes.lines_are prints own waiting ∙ are prints own;
                 };
           };
       due =
-          ap (λ (b : Bool). if b then string_bytes new.text else []) notes.due_is
-          ∙ by (is_shown asked item.owed met) refl
-          ∙ ap (λ (b : Bool). if b then record_text asked form head lines else []) same;
+          notes.due_is ∙ by (is_shown asked item.owed met) refl
+          ∙ ap (λ (b : Bool). if b then of_record (record_lines form head (item ∷ older)) ∷ [] else []) same;
     } where
-      may : (item.owed == 0) ≡ false → meets_record met ≡ true → may_be_printed item.owed met ≡ true
-      may more own = ap (λ (b : Bool). if b then meets_all met else meets_record met) more ∙ own
-
-      by : (b : Bool) → is_shown asked item.owed met ≡ b → (if b then string_bytes new.text else [])
-          ≡ (if b then record_text asked form head (item ∷ older) else [])
+      by : (b : Bool) → is_shown asked item.owed met ≡ b → (if b then of_record lines ∷ [] else [])
+          ≡ (if b then of_record (record_lines form head (item ∷ older)) ∷ [] else [])
       by false is = refl
       by true is =
-          let last = left_part (item.owed == 0) (prints_records asked && meets_all met) is in
           let both = right_part (item.owed == 0) (prints_records asked && meets_all met) is in
           let prints = left_part (prints_records asked) (meets_all met) both in
           let all = right_part (prints_records asked) (meets_all met) both in
-          let whole : may_be_printed item.owed met ≡ true = ap (λ (b : Bool). if b then meets_all met else meets_record met) last ∙ all in
-          notes.text_is prints whole ∙ texts prints (right_part ((met.rule && met.era) && met.verdict) (meets_record met) all)
+          ap (λ ls. of_record ls ∷ []) (are prints (right_part ((met.rule && met.era) && met.verdict) (meets_record met) all))

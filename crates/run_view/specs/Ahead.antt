@@ -1,7 +1,7 @@
 -- The octets of a report that are read ahead, and its lines (this project's profile).
 use Rattle.std.specs.Prelude.{◌≡◌, ◌⊎◌, ℕ, ◌+◌, ◌≤◌, Bool, true, false, List, slice_range, Option, IfSome}
 use Rattle.std.specs.Io.KnownBytes.{Consumes, IsAtEnd, prepend_known}
-use Rattle.run_view.specs.Causes.{IsSomeOctet}
+use Rattle.run_view.specs.Gives.{IsSomeOctet}
 use Rattle.run_view.specs.Lines.{front_line}
 use Rattle.run_view.specs.declared.line.Lines.{Lines}
 

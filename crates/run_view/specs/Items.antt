@@ -3,8 +3,6 @@ use Rattle.std.specs.Prelude.{◌≡◌, ◌⊎◌, ℕ, zero, suc, ◌+◌, ◌
 use Rattle.wire_base.specs.Frames.{ethertype}
 use Rattle.wire_base.specs.declared.address.Link.{Link}
 use Rattle.wire_base.specs.declared.address.Link.TheVariants.{Ethernet, Raw}
-use Rattle.wire_base.specs.declared.address.Side.{Side}
-use Rattle.wire_base.specs.declared.address.Side.TheVariants.{Inward, Outward}
 use Rattle.pcap_file.specs.declared.head.Head.{Head}
 use Rattle.pcap_file.specs.Records.{Packet}
 use Rattle.rule_book.specs.Entries.{PlainEntry}
@@ -17,7 +15,6 @@ use Rattle.frame_view.specs.declared.flow.Flow.{Flow}
 use Rattle.run_view.specs.declared.form.Form.{Form}
 use Rattle.run_view.specs.declared.judged.Kinds.{Kinds}
 use Rattle.run_view.specs.declared.told.Turn.{Turn}
-use Rattle.run_view.specs.Eras.{plus}
 use Rattle.run_view.specs.Forms.{answers, own_frames, version_of}
 use Rattle.run_view.specs.Judged.{kinds_of, made_at}
 
@@ -176,29 +173,3 @@ changes_in link kinds octets (frame ∷ older) = changes_in link kinds octets ol
 -- which frames of a line norm made itself
 abbrev pub kinds_in : Item → Kinds
 kinds_in item = kinds_of item.entry item.first item.owed
-
--- the packet of the first frame, or of the record if it has no frame
-abbrev pub begun_by : Link → (octets : List ℕ) → (frames : List Packet) → Option Flow
-begun_by link octets [] = flow_at link octets
-begun_by link octets (frame ∷ []) = flow_at link frame.octets
-begun_by link octets (frame ∷ next ∷ older) = begun_by link octets (next ∷ older)
-
--- the packet that is kept behind the frame with this number, counted from 0: that of the first frame
-abbrev pub first_flow : (number : ℕ) → (flow before : Option Flow) → Option Flow
-first_flow number flow before = if number == 0 then flow else before
-
--- how many octets a packet has behind its TCP header
-abbrev pub tcp_octets : Option Flow → ℕ
-tcp_octets None = 0
-tcp_octets (Some flow) = if is_some flow.tcp then flow.length else 0
-
--- the same of all frames of a line, up to 2^64 - 1
-abbrev pub octets_in : Link → (frames : List Packet) → ℕ
-octets_in link [] = 0
-octets_in link (frame ∷ older) = plus (octets_in link older) (tcp_octets (flow_at link frame.octets))
-
--- a count of what goes inwards
-abbrev pub if_inward : Option Side → ℕ → ℕ
-if_inward (Some Inward) count = count
-if_inward (Some Outward) count = 0
-if_inward None count = 0

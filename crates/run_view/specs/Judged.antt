@@ -1,5 +1,6 @@
 -- What a line of the report says of the record and of its frames (this project's profile).
-use Rattle.std.specs.Prelude.{ℕ, ◌==◌, ◌&&◌, ◌||◌, Bool, true, false, Option, Some, None, if◌then◌else◌}
+use Rattle.std.specs.Prelude.{ℕ, ◌==◌, ◌&&◌, ◌||◌, Bool, true, false, List, Option, Some, None, if◌then◌else◌}
+use Rattle.std.specs.List.{list_any}
 use Rattle.rule_book.specs.Entries.{PlainEntry}
 use Rattle.rule_book.specs.Rules.{rule_number}
 use Rattle.rule_book.specs.declared.entry.Verdict.{Verdict}
@@ -8,9 +9,12 @@ use Rattle.rule_book.specs.declared.rule.Rule.{Rule}
 use Rattle.rule_book.specs.declared.rule.Rule.TheVariants.{CProbe, FDone}
 use Rattle.frame_view.specs.declared.change.Made.{Made}
 use Rattle.frame_view.specs.declared.change.Made.TheVariants.{Probe, Datagram}
-use Rattle.run_view.specs.Eras.{is_among}
 use Rattle.run_view.specs.declared.judged.Judged.{Judged}
 use Rattle.run_view.specs.declared.judged.Kinds.{Kinds}
+
+-- the rule with this number is among these
+abbrev pub is_among : List Rule → (number : ℕ) → Bool
+is_among rules number = list_any (λ other. rule_number other == number) rules
 
 -- the entry names the rule
 abbrev pub names : Rule → PlainEntry → Bool

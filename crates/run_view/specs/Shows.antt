@@ -1,47 +1,86 @@
--- What a line adds to what is printed of its record, by values of the code (this project's profile).
-use Rattle.std.specs.Prelude.{◌≡◌, ℕ, ◌==◌, ◌&&◌, ◌++◌, Bool, true, List, [], string_bytes, if◌then◌else◌}
-use Rattle.rule_book.specs.Entries.{plain}
+-- What a line adds to what is shown of its record, by values of the code (this project's profile).
+use Rattle.std.specs.Prelude.{◌≡◌, ℕ, ◌==◌, ◌&&◌, ◌++◌, ◌∷◌, Bool, true, List, [], map, Option, Some, None, if◌then◌else◌}
+use Rattle.edge_io.specs.Faults.{next_count}
+use Rattle.wire_base.specs.declared.address.Link.{Link}
+use Rattle.frame_view.specs.Changes as changes
+use Rattle.rule_book.specs.Entries.{PlainEntry, plain}
+use Rattle.view_text.specs.Lines.{PlainLine, plain_line}
 use Rattle.run_view.specs.Chosen.{either, meets_all, meets_record, met_by, prints_records}
-use Rattle.run_view.specs.Eras.{plus}
-use Rattle.run_view.specs.Items.{flow_at}
-use Rattle.run_view.specs.Printed.{record_shown}
-use Rattle.run_view.specs.View.{record_line}
+use Rattle.run_view.specs.Events.{Event, of_record}
+use Rattle.run_view.specs.Items.{flow_at, length_at, type_without, waits}
 use Rattle.run_view.specs.declared.chosen.Meets.{Meets}
 use Rattle.run_view.specs.declared.item.Gathered.{Gathered}
-use Rattle.run_view.specs.declared.print.Shown.{Shown}
 use Rattle.run_view.specs.declared.show.Printing.{Printing}
+use Rattle.run_view.specs.declared.show.Shown.{Shown}
 use Rattle.run_view.specs.declared.words.Asked.{Asked}
-use Rattle.run_view.specs.declared.words.Print.{Print}
+
+-- what a line is shown of, over plain values; so many frames stand before its own
+pub record PlainShown : Type 0 where
+  pub second : Bool
+  pub given : Bool
+  pub number : ℕ
+  pub time : ℕ
+  pub link : Link
+  pub octets : List ℕ
+  pub entry : PlainEntry
+  pub before : ℕ
+
+abbrev pub plain_shown : Shown → PlainShown
+plain_shown shown =
+    record {
+      second = shown.second;
+      given = shown.given;
+      number = shown.number;
+      time = shown.time;
+      link = shown.link;
+      octets = shown.octets.now;
+      entry = plain shown.entry.now;
+      before = shown.before;
+    }
+
+-- what is shown of a line
+abbrev pub line_of_shown : PlainShown → Gathered → PlainLine
+line_of_shown shown gathered =
+    record {
+      number = shown.number;
+      second = shown.second;
+      own = shown.entry.number;
+      time = shown.time;
+      flow = flow_at shown.link shown.octets;
+      ethertype = type_without (flow_at shown.link shown.octets) shown.link shown.octets;
+      length = length_at shown.link shown.octets;
+      entry = shown.entry;
+      given = shown.given;
+      before = shown.before;
+      changes = map changes.plain gathered.changes.items;
+    }
 
 -- which conditions the lines of a record meet: those before, of which there are none where the line is one of the first engine, and this one
-abbrev pub met_shown : Asked → Shown → (before : Meets) → Meets
+abbrev pub met_shown : Asked → PlainShown → (before : Meets) → Meets
 met_shown asked shown before =
-    if shown.second then either before (met_by asked shown.second (plain shown.entry.now) (flow_at shown.link shown.octets.now))
-    else met_by asked shown.second (plain shown.entry.now) (flow_at shown.link shown.octets.now)
+    if shown.second then either before (met_by asked shown.second shown.entry (flow_at shown.link shown.octets))
+    else met_by asked shown.second shown.entry (flow_at shown.link shown.octets)
 
--- the text of these lines
-abbrev pub text_shown : Print → Shown → Gathered → (before : List ℕ) → List ℕ
-text_shown print shown gathered before =
-    (if shown.second then before else [])
-    ++ record_line print
-    (record_shown shown.second shown.given shown.number shown.time shown.link shown.octets.now shown.entry.now shown.before gathered)
+-- these lines with one more; a line of the first engine begins a record
+abbrev pub lines_with : (second : Bool) → (before : List PlainLine) → PlainLine → List PlainLine
+lines_with second before line = (if second then before else []) ++ line ∷ []
 
--- the line is the last of its record, and its lines are printed
+-- the line is the last of its record, and its lines are shown
 abbrev pub is_shown : Asked → (owed : ℕ) → Meets → Bool
 is_shown asked owed met = (owed == 0) && (prints_records asked && meets_all met)
 
--- the lines of a record that meet this may be printed, where so many others are to come
+-- the lines of a record that meet this may be shown, where so many others are to come
 abbrev pub may_be_printed : (owed : ℕ) → Meets → Bool
 may_be_printed owed met = if owed == 0 then meets_all met else meets_record met
 
--- A line was noted, with what the lines of its record meet and their text: the text is kept where it may be printed, and is due where the line is the last and
--- all conditions are met.
-pub record NotesLine (old new : Printing) (asked : Asked) (owed : ℕ) (met : Meets) (text : List ℕ) : Type 0 where
-  pub met_is : prints_records asked ≡ true → new.met ≡ met
-  pub text_is : prints_records asked ≡ true → may_be_printed owed met ≡ true → string_bytes new.text ≡ text
-  pub due_is : new.due ≡ is_shown asked owed met
-  pub count : new.records ≡ (if is_shown asked owed met then plus old.records 1 else old.records)
+-- the record that is due
+abbrev pub due_event : Printing → List Event
+due_event printing = elim printing.due [ None ↦ [] | Some lines ↦ of_record (map plain_line lines.items) ∷ [] ]
 
--- the text that is due
-abbrev pub due_text : Printing → List ℕ
-due_text printing = if printing.due then string_bytes printing.text else []
+-- A line was noted, with what the lines of its record meet and the lines: these are kept where others are to come and they may be shown, and are due where the
+-- line is the last and all conditions are met.
+pub record NotesLine (old new : Printing) (asked : Asked) (owed : ℕ) (met : Meets) (lines : List PlainLine) : Type 0 where
+  pub met_is : prints_records asked ≡ true → new.met ≡ met
+  pub lines_are : prints_records asked ≡ true → meets_record met ≡ true → waits owed ≡ true → map plain_line new.lines.items ≡ lines
+  pub due_is : due_event new ≡ (if is_shown asked owed met then of_record lines ∷ [] else [])
+  pub count : new.records ≡ (if is_shown asked owed met then next_count old.records else old.records)

@@ -1,7 +1,7 @@
 -- Where the readers of the input and of the output stand (this project's profile). Records and frames are lists with the newest at the head. `all` is
 -- what a source had left at first, and `left` what it has left now, where it tells them.
 use Rattle.std.specs.Prelude.{◌≡◌, ◌⊎◌, ℕ, true, List, [], ◌∷◌, length, Option, Some, None, IfSome}
-use Rattle.edge_io.specs.Seen.{Seen}
+use Rattle.edge_io.specs.Faults.{Rose}
 use Rattle.wire_base.specs.declared.address.Link.{Link}
 use Rattle.pcap_file.specs.declared.head.Head.{Head}
 use Rattle.pcap_file.specs.declared.record.Record.{Record}
@@ -12,9 +12,10 @@ use Rattle.pcap_file.specs.Reads.{shown}
 use Rattle.capture_input.specs.declared.input.Input.{Input}
 use Rattle.capture_input.specs.Inputs.{Walk, packets_in, Took, TookAll}
 use Rattle.capture_input.specs.Reading.{Behind, head_in, is_open_in}
-use Rattle.run_view.specs.Sources.{InputHeadFails, InputHeadUnread, InputFailsBehind, InputUnread, TookFrames, OutputHeadFails, OutputHeadUnread, OutputFailsBehind, OutputUnread, IsOfOtherLink}
+use Rattle.run_view.specs.Gives.{TookFrames}
+use Rattle.run_view.specs.Runs.{IsNoCapture, IsNoInput, IsOfOtherLink}
+use Rattle.run_view.specs.Stops.{Says}
 use Rattle.run_view.specs.declared.stop.Stop.{Stop}
-use Rattle.run_view.specs.declared.stop.Stop.TheVariants as stops
 
 -- the input stands behind these records
 pub record InputAt (input : Input) (head : Head) (all left : Option (List ℕ)) (packets : List Packet) : Type 0 where
@@ -34,17 +35,9 @@ pub record InputOpened (input : Input) (all left : Option (List ℕ)) : Type 0 w
   pub goes_on : is_open_in input ≡ true
   pub stands : InputAt input (head_in input) all left []
 
--- why the head of the input was not read
-abbrev pub InputHeadStops : (all : Option (List ℕ)) → (before : ℕ) → (now : Seen) → Stop → Type 0
-InputHeadStops all before now (stops.Input fault offset) = InputHeadFails all fault offset
-InputHeadStops all before now stops.Unread = InputHeadUnread all before now
-InputHeadStops all before now _ = ⊥
-
--- why no record was read of the input behind these
-abbrev pub InputStops : (all : Option (List ℕ)) → Head → List Packet → (before : ℕ) → (now : Seen) → Stop → Type 0
-InputStops all head packets before now (stops.Input fault offset) = InputFailsBehind all head packets fault offset
-InputStops all head packets before now stops.Unread = InputUnread all head packets before now
-InputStops all head packets before now _ = ⊥
+-- why no head and no record was read of the input
+abbrev pub InputStop : (all : Option (List ℕ)) → (before now : ℕ) → Stop → Type 0
+InputStop all before now = Says ⊥ ⊥ (IsNoInput all) ⊥ (Rose before now) ⊥
 
 -- the next record was read of the input, or it is a capture of those before
 abbrev pub InputReads : (input : Input) (head : Head) (all left : Option (List ℕ)) (packets : List Packet) → Option Record → Type 0
@@ -59,16 +52,12 @@ pub record OutputAt (reader : Reading) (head : Head) (all left : Option (List �
   pub head_is : reader.head ≡ head
 
 -- why the head of the output was not read, or not taken where the input has this link
-abbrev pub OutputHeadStops : (link : Link) → (all : Option (List ℕ)) → (before : ℕ) → (now : Seen) → Stop → Type 0
-OutputHeadStops link all before now (stops.Output fault offset) = OutputHeadFails all fault offset ⊎ IsOfOtherLink link all fault offset
-OutputHeadStops link all before now stops.Unread = OutputHeadUnread all before now
-OutputHeadStops link all before now _ = ⊥
+abbrev pub OutputHeadStop : (link : Link) → (all : Option (List ℕ)) → (before now : ℕ) → Stop → Type 0
+OutputHeadStop link all before now = Says ⊥ ⊥ ⊥ (IsNoCapture all ⊎ IsOfOtherLink link all) (Rose before now) ⊥
 
--- why no frame was read of the output behind these
-abbrev pub OutputStops : (all : Option (List ℕ)) → Head → List Packet → (before : ℕ) → (now : Seen) → Stop → Type 0
-OutputStops all head frames before now (stops.Output fault offset) = OutputFailsBehind all head frames fault offset
-OutputStops all head frames before now stops.Unread = OutputUnread all head frames before now
-OutputStops all head frames before now _ = ⊥
+-- why no frame was read of the output
+abbrev pub OutputStop : (all : Option (List ℕ)) → (before now : ℕ) → Stop → Type 0
+OutputStop all before now = Says ⊥ ⊥ ⊥ (IsNoCapture all) (Rose before now) ⊥
 
 -- the next frame was read of the output, or it is a capture of those before
 abbrev pub OutputReads : (reader : Reading) (head : Head) (all left : Option (List ℕ)) (frames : List Packet) → Option Record → Type 0

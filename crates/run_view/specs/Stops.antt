@@ -1,25 +1,14 @@
--- Why a run is not viewed to its end: the statuses and the lines (this project's profile).
-use Rattle.std.specs.Prelude.{ℕ, Bool, List, [], ◌++◌, Option, Some, None, IsSome, codes, decimal, if◌then◌else◌}
+-- Why a run is not viewed to its end: the statuses, and what a stop says (this project's profile).
+use Rattle.std.specs.Prelude.{◌≡◌, ◌≢◌, ℕ, false, List, ◌++◌, if◌then◌else◌}
+use Rattle.edge_io.specs.Faults.{Rose}
+use Rattle.capture_input.specs.Faults.{is_read_fault}
 use Rattle.capture_input.specs.declared.fault.InputFault.{InputFault}
 use Rattle.capture_input.specs.declared.fault.InputFault.TheVariants as faults
-use Rattle.rule_book.specs.Text.{part}
-use Rattle.view_text.specs.Lines.{line_of}
-use Rattle.view_text.specs.Runs.{stop_fields}
-use Rattle.view_text.specs.declared.view.Format.{Format}
-use Rattle.view_text.specs.declared.view.Format.TheVariants.{Json, Text}
+use Rattle.run_view.specs.Forms.{heading}
+use Rattle.run_view.specs.Runs.{AreNoRest, AreNoRun, FaultCounts, IsNoCapture, IsNoInput, IsNoOutput, SourceRose, Sources}
+use Rattle.run_view.specs.declared.form.Form.{Form}
 use Rattle.run_view.specs.declared.stop.Stop.{Stop}
 use Rattle.run_view.specs.declared.stop.Stop.TheVariants as stops
-
--- the word for a fault of a capture, as a report has it
-abbrev pub fault_word : InputFault → List ℕ
-fault_word faults.Cut = codes "cut"
-fault_word faults.Magic = codes "magic"
-fault_word faults.Version = codes "version"
-fault_word faults.Link = codes "link"
-fault_word faults.Block = codes "block"
-fault_word faults.Long = codes "long"
-fault_word faults.Many = codes "many"
-fault_word faults.ReadFault = codes "read"
 
 -- a capture that ends inside its head, a record or a block has another status than one with another fault
 abbrev pub fault_status : InputFault → ℕ
@@ -44,26 +33,41 @@ status_of stops.Unwritten = 7
 status_of stops.Memory = 8
 status_of (stops.Report line) = 9
 
--- the words that say why; there are none where the output itself failed
-abbrev pub reason_of : Stop → Option (List ℕ)
-reason_of stops.Words = Some (codes "stop words")
-reason_of (stops.Record number) = Some (codes "no record" ++ part (decimal number))
-reason_of (stops.Frame number) = Some (codes "no frame" ++ part (decimal number))
-reason_of (stops.Input fault offset) = Some (codes "stop in" ++ part (fault_word fault) ++ part (decimal offset))
-reason_of (stops.Output fault offset) = Some (codes "stop out" ++ part (fault_word fault) ++ part (decimal offset))
-reason_of stops.Unread = Some (codes "stop read")
-reason_of stops.Unwritten = None
-reason_of stops.Memory = Some (codes "stop memory")
-reason_of (stops.Report line) = Some (codes "stop report" ++ part (decimal line))
+-- the stop at a fault of the input, or of the output; a failure of a source is no fault of its octets
+abbrev pub input_stop : InputFault → (offset : ℕ) → Stop
+input_stop fault offset = if is_read_fault fault then stops.Unread else stops.Input fault offset
 
--- a stop has a line if it has words
-abbrev pub HasLine : Stop → Type 0
-HasLine stop = IsSome (reason_of stop)
+abbrev pub output_stop : InputFault → (offset : ℕ) → Stop
+output_stop fault offset = if is_read_fault fault then stops.Unread else stops.Output fault offset
 
--- the line of a stop
-abbrev pub stop_line : Format → Stop → List ℕ
-stop_line format stop = elim (reason_of stop) [ Some reason ↦ line_of format (stop_fields (status_of stop) reason) | None ↦ [] ]
+-- what a stop says: the words are refused, the files are those of no run, the input or the output is none, a source or the output failed; nothing is claimed
+-- of memory
+abbrev pub Meaning : (refused no_run no_input no_output unread unwritten : Type 0) → Stop → Type 0
+Meaning refused no_run no_input no_output unread unwritten stops.Words = refused
+Meaning refused no_run no_input no_output unread unwritten (stops.Record number) = no_run
+Meaning refused no_run no_input no_output unread unwritten (stops.Frame number) = no_run
+Meaning refused no_run no_input no_output unread unwritten (stops.Report line) = no_run
+Meaning refused no_run no_input no_output unread unwritten (stops.Input fault offset) = (is_read_fault fault ≡ false) × no_input
+Meaning refused no_run no_input no_output unread unwritten (stops.Output fault offset) = (is_read_fault fault ≡ false) × no_output
+Meaning refused no_run no_input no_output unread unwritten stops.Unread = unread
+Meaning refused no_run no_input no_output unread unwritten stops.Unwritten = unwritten
+Meaning refused no_run no_input no_output unread unwritten stops.Memory = Unit {0}
 
--- the format of the line of a stop
-abbrev pub stop_format : (json : Bool) → Format
-stop_format json = if json then Json else Text
+pub record Says (refused no_run no_input no_output unread unwritten : Type 0) (stop : Stop) : Type 0 where
+  pub is : Meaning refused no_run no_input no_output unread unwritten stop
+
+-- why a view stops whose words were accepted
+abbrev pub FilesStop : (s : Sources) (before now : FaultCounts) → Stop → Type 0
+FilesStop s before now = Says ⊥ (AreNoRun s) (IsNoInput s.input) (IsNoOutput s) (SourceRose before now) (Rose before.out now.out)
+
+-- why one stops behind the first line of the report, which is read so
+abbrev pub RestStop : Form → (s : Sources) (before now : FaultCounts) → Stop → Type 0
+RestStop form s before now = Says ⊥ (AreNoRest form s) (IsNoInput s.input) (IsNoCapture s.output) (SourceRose before now) (Rose before.out now.out)
+
+-- why the output was not written
+abbrev pub OutStop : (before now : ℕ) → Stop → Type 0
+OutStop before now = Says ⊥ ⊥ ⊥ ⊥ ⊥ (Rose before now)
+
+-- the octets do not begin with the first line of a report of one of the forms
+abbrev pub IsNoFirst : (octets : List ℕ) → Type 0
+IsNoFirst octets = (form : Form) → (rest : List ℕ) → octets ≢ heading form ++ rest

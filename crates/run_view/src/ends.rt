@@ -1,21 +1,19 @@
 //! The ends of the three files and of the output.
-ghost use Rattle.std.specs.Prelude.{◌≡◌, List, ℕ, [], IfErr, OnOk};
+ghost use Rattle.std.specs.Prelude.{◌≡◌, List, ℕ, IfErr, OnOk};
 ghost use Rattle.std.specs.declared.option.Option.{Option};
 ghost use Rattle.edge_io.specs.Faults.{RisesOnlyAtErr};
-ghost use Rattle.edge_io.specs.Seen.{Seen};
 ghost use Rattle.pcap_file.specs.declared.head.Head.{Head};
 ghost use Rattle.run_view.specs.Ahead.{left_in};
-ghost use Rattle.run_view.specs.Causes.{AreOver, counts_of, moment_of, sources_of};
-ghost use Rattle.run_view.specs.Going.{HasEnded};
-ghost use Rattle.run_view.specs.Printed.{Cut};
+ghost use Rattle.run_view.specs.Events.{Event};
+ghost use Rattle.run_view.specs.Gives.{AreOver};
+ghost use Rattle.run_view.specs.Progress.{EndStop, HasEnded};
+ghost use Rattle.run_view.specs.Runs.{counts_of, sources_of};
 ghost use Rattle.run_view.specs.SoFar.{Closes, Ends, MayTake, ends_of};
-ghost use Rattle.run_view.specs.Why.{EndStops};
-ghost use Rattle.run_view.specs.declared.stop.Stop.TheVariants.{Unwritten};
 
 use crate::Stop;
 use crate::sources::{next_frame, next_record};
 use crate::viewer::Viewer;
-use edge_io::{Sink, Source};
+use edge_io::Source;
 
 /// Checks that nothing is left of the three files.
 pub(crate) fn check_ends<I: Source, O: Source, R: Source>(
@@ -25,15 +23,14 @@ pub(crate) fn check_ends<I: Source, O: Source, R: Source>(
     report: &mut R,
 ) -> Result<(), Stop>
     requires may { MayTake viewer.old }
-    ensures over { OnOk result ((head : Head) (before : Ends) (printed told left : Option (List ℕ)) →
-        (ended : HasEnded viewer.old head before (ends_of (I.left input.old) (O.left output.old) printed) told left
+    ensures over { OnOk result ((head : Head) (before : Ends) (shown : Option (List Event)) (told left : Option (List ℕ)) →
+        (ended : HasEnded viewer.old head before (ends_of (I.left input.old) (O.left output.old) shown) told left
         (left_in viewer.old.lines (R.left report.old))) →
         AreOver (sources_of before.read before.written told) viewer.old.files.head head ended.going.items left) }
-    ensures stops { IfErr result (λ stop. (out : Seen) →
-        EndStops viewer.old (I.left input.old) (O.left output.old) (left_in viewer.old.lines (R.left report.old))
-        (counts_of (I.fault_count input.old) (O.fault_count output.old) (R.fault_count report.old) out.faults)
-        (moment_of (I.left input.new) (I.fault_count input.new) (O.left output.new) (O.fault_count output.new)
-        (R.left report.new) (R.fault_count report.new) out.octets out.faults) stop) }
+    ensures stops { IfErr result (λ stop. (out : ℕ) →
+        EndStop viewer.old (I.left input.old) (O.left output.old) (left_in viewer.old.lines (R.left report.old))
+        (counts_of (I.fault_count input.old) (O.fault_count output.old) (R.fault_count report.old) out)
+        (counts_of (I.fault_count input.new) (O.fault_count output.new) (R.fault_count report.new) out) stop) }
     ensures same { OnOk result (Closes viewer.old viewer.new) }
     ensures input_faults { RisesOnlyAtErr (I.fault_count input.old) (I.fault_count input.new) result }
     ensures output_faults { RisesOnlyAtErr (O.fault_count output.old) (O.fault_count output.new) result }
@@ -54,17 +51,4 @@ pub(crate) fn check_ends<I: Source, O: Source, R: Source>(
         return Err(Stop::Frame(frames.count + 1));
     }
     Ok(())
-}
-
-/// Flushes the output.
-pub(crate) fn flush<K: Sink>(out: &mut K) -> Result<(), Stop>
-    ensures flushed { OnOk result (K.held out.new ≡ K.held out.old) }
-    ensures stops { IfErr result (λ stop. (stop ≡ Unwritten) × Cut (K.held out.old) (K.held out.new) (K.fault_count out.old) (K.fault_count out.new)
-        []) }
-    ensures faults { RisesOnlyAtErr (K.fault_count out.old) (K.fault_count out.new) result }
-{
-    match out.flush() {
-        Ok(()) => Ok(()),
-        Err(_) => Err(Stop::Unwritten),
-    }
 }

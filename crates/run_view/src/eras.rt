@@ -1,8 +1,4 @@
 //! The table of the eras that a run names.
-ghost use Rattle.std.specs.Prelude.{◌≡◌, nat_eq, option_map, true, IsSome, OnOk};
-ghost use Rattle.indexmap.specs.IndexMap.{get};
-ghost use Rattle.run_view.specs.Rows.{plain_row, table_of};
-ghost use Rattle.run_view.specs.Eras as spec;
 
 use crate::chosen::is_among;
 use edge_io::NoMemory;
@@ -48,9 +44,7 @@ pub(crate) struct Told<'a> {
 
 impl EraRow {
     // Returns the row of an era of which nothing is known.
-    fn new(alloc: Global) -> EraRow
-        ensures { plain_row result ≡ spec.no_row }
-    {
+    fn new(alloc: Global) -> EraRow {
         EraRow {
             flow: None,
             opened: None,
@@ -64,9 +58,7 @@ impl EraRow {
     }
 
     // Adds a record.
-    fn add(&mut self, told: Told<'_>) -> Result<(), NoMemory>
-        ensures { OnOk result (plain_row self.new ≡ spec.with_record told.entry.time told.entry.octets told.entry.rules.now (plain_row self.old)) }
-    {
+    fn add(&mut self, told: Told<'_>) -> Result<(), NoMemory> {
         add_rules(&mut self.rules, told.rules)?;
         if self.records == 0 {
             self.first = told.time;
@@ -79,9 +71,7 @@ impl EraRow {
 }
 
 // Adds each rule that is not among them.
-fn add_rules(rules: &mut Vec<Rule>, more: &[Rule]) -> Result<(), NoMemory>
-    ensures { OnOk result (rules.new.items ≡ spec.with_rules rules.old.items more.now) }
-{
+fn add_rules(rules: &mut Vec<Rule>, more: &[Rule]) -> Result<(), NoMemory> {
     for rule in more {
         add_rule(rules, *rule)?;
     }
@@ -89,9 +79,7 @@ fn add_rules(rules: &mut Vec<Rule>, more: &[Rule]) -> Result<(), NoMemory>
 }
 
 // Adds a rule, unless it is among them.
-fn add_rule(rules: &mut Vec<Rule>, rule: Rule) -> Result<(), NoMemory>
-    ensures { OnOk result (rules.new.items ≡ spec.with_rule rules.old.items rule) }
-{
+fn add_rule(rules: &mut Vec<Rule>, rule: Rule) -> Result<(), NoMemory> {
     if is_among(rules.as_slice(), rule.number()) {
         return Ok(());
     }
@@ -105,26 +93,14 @@ pub(crate) fn add_record(
     eras: &mut Eras,
     era: Option<u32>,
     told: Told<'_>,
-) -> Result<(), NoMemory>
-    ensures { OnOk result (table_of eras.new ≡ spec.changed_if era (spec.with_record told.entry.time told.entry.octets told.entry.rules.now)
-        (table_of eras.old)) }
-{
+) -> Result<(), NoMemory> {
     let Some(era) = era else {
         return Ok(());
     };
     name(alloc, eras, era)?;
-    add_named(eras, era, told)
-}
-
-// Adds a record to an era that is in the table.
-fn add_named(eras: &mut Eras, era: u32, told: Told<'_>) -> Result<(), NoMemory>
-    requires there { IsSome (get nat_eq eras.old era) }
-    ensures { OnOk result (table_of eras.new ≡ spec.changed era (spec.with_record told.entry.time told.entry.octets told.entry.rules.now)
-        (table_of eras.old)) }
-{
     match eras.get_mut(&era) {
         Some(row) => row.add(told),
-        None => unreachable!(),
+        None => Ok(()),
     }
 }
 
@@ -135,38 +111,21 @@ pub(crate) fn begin(
     era: Option<u32>,
     outside: bool,
     flow: Option<Flow>,
-) -> Result<(), NoMemory>
-    ensures { OnOk result (table_of eras.new ≡ spec.changed_if era (spec.with_begin outside flow) (table_of eras.old)) }
-{
+) -> Result<(), NoMemory> {
     let Some(era) = era else {
         return Ok(());
     };
     name(alloc, eras, era)?;
-    begin_named(eras, era, outside, flow);
-    Ok(())
-}
-
-// Notes the packet that began an era that is in the table.
-fn begin_named(eras: &mut Eras, era: u32, outside: bool, flow: Option<Flow>)
-    requires there { IsSome (get nat_eq eras.old era) }
-    ensures { table_of eras.new ≡ spec.changed era (spec.with_begin outside flow) (table_of eras.old) }
-{
-    let own = outside_first(outside, flow);
-    let opened = opened_by(outside, flow);
-    match eras.get_mut(&era) {
-        Some(row) => {
-            row.flow = own;
-            row.opened = Some(opened);
-        }
-        None => unreachable!(),
+    if let Some(row) = eras.get_mut(&era) {
+        row.flow = outside_first(outside, flow);
+        row.opened = Some(opened_by(outside, flow));
     }
+    Ok(())
 }
 
 /// Returns whether a packet went from the outside of the network to its inside, by the side that an
 /// engine says.
-pub(crate) fn from_outside(second: bool, side: Option<Side>) -> bool
-    ensures { result ≡ spec.from_outside second side }
-{
+pub(crate) fn from_outside(second: bool, side: Option<Side>) -> bool {
     match side {
         Some(Side::Inward) => !second,
         Some(Side::Outward) => second,
@@ -175,9 +134,7 @@ pub(crate) fn from_outside(second: bool, side: Option<Side>) -> bool
 }
 
 // Returns a packet with the outside host as its source.
-fn outside_first(outside: bool, flow: Option<Flow>) -> Option<Flow>
-    ensures { result ≡ spec.outside_first outside flow }
-{
+fn outside_first(outside: bool, flow: Option<Flow>) -> Option<Flow> {
     if outside {
         return flow;
     }
@@ -188,9 +145,7 @@ fn outside_first(outside: bool, flow: Option<Flow>) -> Option<Flow>
 }
 
 // Returns a packet with source and destination exchanged.
-fn turned(flow: Flow) -> Flow
-    ensures { result ≡ spec.turned flow }
-{
+fn turned(flow: Flow) -> Flow {
     Flow {
         src: flow.dst,
         dst: flow.src,
@@ -199,9 +154,7 @@ fn turned(flow: Flow) -> Flow
     }
 }
 
-fn turned_ports(ports: Option<Ports>) -> Option<Ports>
-    ensures { result ≡ option_map spec.turned_ports ports }
-{
+fn turned_ports(ports: Option<Ports>) -> Option<Ports> {
     match ports {
         Some(ports) => Some(Ports {
             src: ports.dst,
@@ -212,9 +165,7 @@ fn turned_ports(ports: Option<Ports>) -> Option<Ports>
 }
 
 // Returns how a packet opens an era.
-fn opened_by(outside: bool, flow: Option<Flow>) -> Opened
-    ensures { result ≡ spec.opened_by outside flow }
-{
+fn opened_by(outside: bool, flow: Option<Flow>) -> Opened {
     if !is_opening(flow) {
         Opened::Mid
     } else if outside {
@@ -225,9 +176,7 @@ fn opened_by(outside: bool, flow: Option<Flow>) -> Opened
 }
 
 // Returns whether a packet is a segment with SYN and without ACK.
-fn is_opening(flow: Option<Flow>) -> bool
-    ensures { result ≡ spec.is_opening flow }
-{
+fn is_opening(flow: Option<Flow>) -> bool {
     let Some(flow) = flow else {
         return false;
     };
@@ -243,32 +192,19 @@ pub(crate) fn bring(
     eras: &mut Eras,
     era: Option<u32>,
     octets: u64,
-) -> Result<(), NoMemory>
-    ensures { OnOk result (table_of eras.new ≡ spec.changed_if era (spec.with_sent octets) (table_of eras.old)) }
-{
+) -> Result<(), NoMemory> {
     let Some(era) = era else {
         return Ok(());
     };
     name(alloc, eras, era)?;
-    bring_named(eras, era, octets);
+    if let Some(row) = eras.get_mut(&era) {
+        row.sent = row.sent.saturating_add(octets);
+    }
     Ok(())
 }
 
-// Adds octets that were sent inwards in an era that is in the table.
-fn bring_named(eras: &mut Eras, era: u32, octets: u64)
-    requires there { IsSome (get nat_eq eras.old era) }
-    ensures { table_of eras.new ≡ spec.changed era (spec.with_sent octets) (table_of eras.old) }
-{
-    match eras.get_mut(&era) {
-        Some(row) => row.sent = row.sent.saturating_add(octets),
-        None => unreachable!(),
-    }
-}
-
 /// Notes the eras that ended.
-pub(crate) fn end_all(alloc: Global, eras: &mut Eras, ended: &[Ended]) -> Result<(), NoMemory>
-    ensures { OnOk result (table_of eras.new ≡ spec.with_ended ended.now (table_of eras.old)) }
-{
+pub(crate) fn end_all(alloc: Global, eras: &mut Eras, ended: &[Ended]) -> Result<(), NoMemory> {
     for one in ended {
         end(alloc, eras, *one)?;
     }
@@ -276,30 +212,16 @@ pub(crate) fn end_all(alloc: Global, eras: &mut Eras, ended: &[Ended]) -> Result
 }
 
 // Notes that an era ended.
-fn end(alloc: Global, eras: &mut Eras, ended: Ended) -> Result<(), NoMemory>
-    ensures { OnOk result (table_of eras.new ≡ spec.changed ended.era (spec.with_end ended) (table_of eras.old)) }
-{
+fn end(alloc: Global, eras: &mut Eras, ended: Ended) -> Result<(), NoMemory> {
     name(alloc, eras, ended.era)?;
-    end_named(eras, ended);
+    if let Some(row) = eras.get_mut(&ended.era) {
+        row.ended = Some(ended);
+    }
     Ok(())
 }
 
-// Notes that an era that is in the table ended.
-fn end_named(eras: &mut Eras, ended: Ended)
-    requires there { IsSome (get nat_eq eras.old ended.era) }
-    ensures { table_of eras.new ≡ spec.changed ended.era (spec.with_end ended) (table_of eras.old) }
-{
-    match eras.get_mut(&ended.era) {
-        Some(row) => row.ended = Some(ended),
-        None => unreachable!(),
-    }
-}
-
 // Adds an era of which nothing is known, unless it is in the table.
-fn name(alloc: Global, eras: &mut Eras, era: u32) -> Result<(), NoMemory>
-    ensures named { OnOk result (table_of eras.new ≡ spec.named era (table_of eras.old)) }
-    ensures there { OnOk result (IsSome (get nat_eq eras.new era)) }
-{
+fn name(alloc: Global, eras: &mut Eras, era: u32) -> Result<(), NoMemory> {
     if eras.contains_key(&era) {
         return Ok(());
     }

@@ -1,11 +1,10 @@
 //! The form of a report.
-ghost use Rattle.std.specs.Prelude.{◌≡◌, IfErr, IfOk};
+ghost use Rattle.std.specs.Prelude.{◌≡◌, IfErr, IfOk, IfSome};
 ghost use Rattle.std.specs.Io.KnownBytes.{Consumes};
-ghost use Rattle.edge_io.specs.Faults.{RisesOnlyAtErr};
-ghost use Rattle.edge_io.specs.Seen.{seen_of};
+ghost use Rattle.edge_io.specs.Faults.{RisesOnlyAtErr, Rose};
 ghost use Rattle.run_view.specs.Ahead.{left_in};
 ghost use Rattle.run_view.specs.Forms as spec;
-ghost use Rattle.run_view.specs.Why.{FirstStops};
+ghost use Rattle.run_view.specs.Stops.{IsNoFirst, Says};
 
 use crate::Stop;
 use crate::line::Lines;
@@ -24,8 +23,8 @@ pub enum Form {
 
 /// Reads the first line of the report, and returns its form.
 pub(crate) fn read_form<R: Source>(lines: &mut Lines, report: &mut R) -> Result<Form, Stop>
-    ensures stops { IfErr result (FirstStops (left_in lines.old (R.left report.old)) (R.fault_count report.old)
-        (seen_of (R.left report.new) (R.fault_count report.new))) }
+    ensures stops { IfErr result (Says ⊥ (IfSome (left_in lines.old (R.left report.old)) IsNoFirst) ⊥ ⊥
+        (Rose (R.fault_count report.old) (R.fault_count report.new)) ⊥) }
     ensures first { IfOk result (λ form. Consumes (left_in lines.old (R.left report.old)) (left_in lines.new (R.left report.new))
         (spec.heading form)) }
     ensures faults { RisesOnlyAtErr (R.fault_count report.old) (R.fault_count report.new) result }

@@ -4,13 +4,11 @@ ghost use Rattle.std.specs.declared.option.Option.{Option};
 ghost use Rattle.pcap_file.specs.Records.{Packet};
 ghost use Rattle.pcap_file.specs.declared.head.Head.{Head};
 ghost use Rattle.rule_book.specs.Entries.{plain};
-ghost use Rattle.run_view.specs.Eras.{plus};
 ghost use Rattle.run_view.specs.Items as spec;
 ghost use Rattle.run_view.specs.Items.{waits};
 ghost use Rattle.edge_io.specs.Faults.{RisesOnlyAtErr};
-ghost use Rattle.edge_io.specs.Seen.{seen_of};
 ghost use Rattle.run_view.specs.Standing.{OutputAt};
-ghost use Rattle.run_view.specs.Steps.{FrameAdded, FrameStops, FramesRead, FramesStop, Holds, IsGathered, MayRead};
+ghost use Rattle.run_view.specs.Steps.{FrameAdded, FrameStop, FramesRead, FramesStop, Holds, IsGathered, MayRead};
 
 use crate::Stop;
 use crate::judged::{Judged, judged_by};
@@ -112,8 +110,7 @@ pub(crate) fn time_of(head: Head, seconds: u32, fraction: u32) -> u64
 
 /// Returns what is gathered before the first frame.
 pub(crate) fn nothing(alloc: Global, original: Original<'_>, wants: Wants) -> Gathered
-    ensures gathers { IsGathered original.entry.link original.entry.kinds original.entry.octets.now [] result }
-    ensures wants { result.wants ≡ wants }
+    ensures { IsGathered original.entry.link original.entry.kinds original.entry.octets.now [] result }
 {
     Gathered {
         changes: Vec::new(alloc),
@@ -139,12 +136,11 @@ pub(crate) fn gather<O: Source>(
         OutputAt frames.old.reader head all (O.left output.old) older →
         FramesRead frames.new all (O.left output.new) head older original.entry.link original.entry.kinds original.entry.octets.now packets
         gathered.new) }
-    ensures wants { OnOk result (gathered.new.wants ≡ gathered.old.wants) }
     ensures ready { OnOk result (MayRead frames.new) }
     ensures count { OnOk result (frames.new.count ≡ frames.old.count + packets) }
     ensures stops { IfErr result (λ stop. (all : Option (List ℕ)) (head : Head) (older : List Packet) →
         OutputAt frames.old.reader head all (O.left output.old) older →
-        FramesStop frames.old all head older packets (O.fault_count output.old) (seen_of (O.left output.new) (O.fault_count output.new)) stop) }
+        FramesStop all head older packets (O.fault_count output.old) (O.fault_count output.new) stop) }
     ensures faults { RisesOnlyAtErr (O.fault_count output.old) (O.fault_count output.new) result }
 {
     for number in 0..packets {
@@ -154,9 +150,7 @@ pub(crate) fn gather<O: Source>(
 }
 
 // Returns what the headers of a record say, if that is wanted.
-fn wanted_flow(wanted: bool, original: Original<'_>) -> Option<Flow>
-    ensures { wanted ≡ true → result ≡ spec.flow_at original.entry.link original.entry.octets.now }
-{
+fn wanted_flow(wanted: bool, original: Original<'_>) -> Option<Flow> {
     if wanted {
         flow_at(original.link, original.octets)
     } else {
@@ -180,12 +174,11 @@ fn add_frame<O: Source>(
         IsGathered original.entry.link original.entry.kinds original.entry.octets.now own gathered.old →
         FrameAdded frames.new all (O.left output.new) head own older original.entry.link original.entry.kinds original.entry.octets.now
         gathered.new) }
-    ensures wants { OnOk result (gathered.new.wants ≡ gathered.old.wants) }
     ensures ready { OnOk result (MayRead frames.new) }
     ensures count { OnOk result (frames.new.count ≡ frames.old.count + 1) }
     ensures stops { IfErr result (λ stop. (all : Option (List ℕ)) (head : Head) (behind : List Packet) →
         OutputAt frames.old.reader head all (O.left output.old) behind →
-        FrameStops frames.old all head behind (O.fault_count output.old) (seen_of (O.left output.new) (O.fault_count output.new)) stop) }
+        FrameStop all head behind (O.fault_count output.old) (O.fault_count output.new) stop) }
     ensures faults { RisesOnlyAtErr (O.fault_count output.old) (O.fault_count output.new) result }
 {
     let Some(frame) = next_frame(&mut frames.reader, output, &mut frames.buffer[..])? else {
@@ -204,10 +197,9 @@ fn note_frame(
     frame: &[u8],
     gathered: &mut Gathered,
 ) -> Result<(), NoMemory>
-    ensures noted { OnOk result ((own : List Packet) (packet : Packet) → length own ≡ number → packet.octets ≡ frame.now →
+    ensures { OnOk result ((own : List Packet) (packet : Packet) → length own ≡ number → packet.octets ≡ frame.now →
         IsGathered original.entry.link original.entry.kinds original.entry.octets.now own gathered.old →
         IsGathered original.entry.link original.entry.kinds original.entry.octets.now (packet ∷ own) gathered.new) }
-    ensures wants { OnOk result (gathered.new.wants ≡ gathered.old.wants) }
 {
     let place = u32::from(number) + 1;
     add_changes_at(alloc, original, frame, place, &mut gathered.changes)?;
@@ -217,11 +209,7 @@ fn note_frame(
 
 // Notes the packet and the octets of the next frame of a record, if they are wanted.
 fn note_flow(link: Link, number: u8, frame: &[u8], gathered: &mut Gathered)
-    ensures changes { gathered.new.changes ≡ gathered.old.changes }
-    ensures wants { gathered.new.wants ≡ gathered.old.wants }
-    ensures flow { gathered.old.wants.flow ≡ true → gathered.new.flow ≡ spec.first_flow number (spec.flow_at link frame.now) gathered.old.flow }
-    ensures octets { gathered.old.wants.octets ≡ true → gathered.new.octets ≡ plus gathered.old.octets
-        (spec.tcp_octets (spec.flow_at link frame.now)) }
+    ensures { gathered.new.changes ≡ gathered.old.changes }
 {
     let wants = gathered.wants;
     if !wants.flow && !wants.octets {
@@ -235,16 +223,12 @@ fn note_flow(link: Link, number: u8, frame: &[u8], gathered: &mut Gathered)
 }
 
 // Returns what the headers of the first frame say: this one's if it has the number 0.
-fn first_flow(number: u8, flow: Option<Flow>, before: Option<Flow>) -> Option<Flow>
-    ensures { result ≡ spec.first_flow number flow before }
-{
+fn first_flow(number: u8, flow: Option<Flow>, before: Option<Flow>) -> Option<Flow> {
     if number == 0 { flow } else { before }
 }
 
 // Returns how many octets a packet has behind its TCP header.
-fn tcp_octets(flow: Option<Flow>) -> u64
-    ensures { result ≡ spec.tcp_octets flow }
-{
+fn tcp_octets(flow: Option<Flow>) -> u64 {
     match flow {
         Some(flow) if flow.tcp.is_some() => flow.length,
         _ => 0,

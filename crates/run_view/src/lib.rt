@@ -1,44 +1,28 @@
 //! The view of a finished run: the capture that a run read, the capture that it wrote and its
-//! report are read in step, and records, eras and a summary are printed.
+//! report are read in step, and records, eras and a summary are shown.
 //!
-//! `view` has the contract, by status:
+//! `view` writes to `Events`: a list of events, one for each record that is shown, with all its
+//! lines, and one for how many were chosen. Its contract, by status:
 //!
-//! - 0: the words are accepted, and there is one list of items, one a line of the report, with its
-//!   record, its entry and its frames: the input is a capture of the records, the output one of the
-//!   frames with the link of the input, the report that of a finished run with the lines, and what
-//!   was printed is exactly `view_text_of` of the items. The status is 10 in its place exactly if
-//!   notes are asked for and one of those of the items is a warning (`run_notes`). In a report of
-//!   two engines a line of the first engine has a record and no frames, and is followed by a line of
-//!   the second for each frame that it names; these have the frames of the output.
-//! - 1, 3, 4, 9: the files give some items and do not go on as the next one or the end would have it
-//!   (`specs/Causes.antt`). At 3 and 4 the input has a fault right behind the records of the items,
-//!   where the next record or the end was wanted, or the output one right behind the frames read so
-//!   far. Before any item, 3 and 4 name a fault in the head of the input; or that head is accepted,
-//!   and that of the output has a fault or another link; and 9 names a first line of no report, where
-//!   both heads are accepted and have one link.
+//! - 0 or 10: the words are accepted, and there is one list of items, one a line of the report, with
+//!   its record, its entry and its frames: the input is a capture of the records, the output one of
+//!   the frames with the link of the input, and the report that of a finished run with the lines.
+//!   The events that were shown are exactly those of the items by the words (`events_of`). In a
+//!   report of two engines a line of the first engine has a record and no frames, and is followed by
+//!   a line of the second for each frame that it names; these have the frames of the output.
+//! - 1, 9: the three files are not those of a finished run.
 //! - 2: the words are refused.
-//! - 5: the count of faults of a source rose, or is at its last value. If it is the input or the
-//!   output, what was taken of it is what the items have, the frames before the one that was wanted,
-//!   blocks without a record, and only a part of the head, block, record or frame that was wanted
-//!   next. If it is the report, fewer than 4,096 octets of it were taken behind the lines that were
-//!   read, of which the last line of a run may be one.
-//! - 7: the count of faults of the output rose, and what it holds is a prefix of the text of items
-//!   that the files give, of that and what ends a view of them, where the files end there, or of the
-//!   text before a stop and its line.
-//! - 8: memory could not be allocated (that is not claimed). There may be whole lines behind the
-//!   text of the items, the first of those that end a view of them; if there are any, the three files
-//!   end there.
+//! - 3, 4: the input is no capture, or the output is none, or has another link.
+//! - 5, 7: the count of faults of a source, or of the output, rose, or is at its last value.
+//! - 8: memory could not be allocated (that is not claimed).
 //!
-//! Before the line of a stop the text of the items up to there is printed, all lines of a record or
-//! none; nothing, where the stop is at a head or at the first line of the report. A line is one list of named fields in a format (`view_text`); no clause names a format but
-//! that of a stop, which is JSON if a word is `--json`. Nothing is claimed of a source or an output
-//! without known octets.
+//! Nothing is claimed of a source or of events that are not known. What a `Printer` writes of the
+//! events, headings, eras, the summary, notes, the line of a stop, and which of 0 and 10 it is, are
+//! proved safe and tested.
 //!
-//! Laws: each quantity of an era of either engine is a first, last, count or sum over all items
-//! (`eras_are_rows`); a view of an input, an output of its link and a report of the same items stops
-//! only if memory cannot be allocated, or if a count of faults rises or is at its last value
-//! (`runs_are_viewed`); words and three files with known octets have a cause of at most one stop, and
-//! of none if the run was viewed, but for memory and faults (`stops_are_one`).
+//! Laws: a view of an input, an output of its link and a report of the same items stops only if
+//! memory cannot be allocated, or if a count of faults rises or is at its last value
+//! (`runs_are_viewed`); a table of eras and notes show no record (`others_show_no_record`).
 //!
 //! Choices: counts of 64 bits stand still at the last value. Conditions choose a record with all
 //! its lines, of which at most one record's are kept; each condition may be met by another line. A
@@ -52,6 +36,7 @@
 mod chosen;
 mod ends;
 mod eras;
+pub mod events;
 pub mod form;
 mod item;
 mod judged;
@@ -69,6 +54,7 @@ pub mod values;
 pub mod viewer;
 pub mod words;
 
+pub use events::{Event, Events, MemEvents, Printer, Unshown};
 pub use form::Form;
 pub use stop::Stop;
 pub use viewer::view;

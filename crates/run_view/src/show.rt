@@ -1,120 +1,159 @@
-//! The lines of a record, which are printed together once the last of them was read.
-ghost use Rattle.std.specs.Prelude.{◌≡◌, true, false, IfErr, IfOk, OnOk, string_bytes};
-ghost use Rattle.std.specs.Io.KnownBytes.{Appends};
+//! The lines of a record, which are shown together once the last of them was read.
+ghost use Rattle.std.specs.Prelude.{◌≡◌, [], ◌∷◌, ◌++◌, None, true, false, map, IfErr, OnOk};
 ghost use Rattle.edge_io.specs.Faults.{RisesOnlyAtErr};
+ghost use Rattle.rule_book.specs.Entries.{plain};
+ghost use Rattle.view_text.specs.Lines.{plain_line};
 ghost use Rattle.run_view.specs.Chosen as spec;
-ghost use Rattle.run_view.specs.Printed.{Cut, record_shown};
-ghost use Rattle.run_view.specs.Shows.{NotesLine, due_text, may_be_printed, met_shown, text_shown};
-ghost use Rattle.run_view.specs.View as view;
-ghost use Rattle.run_view.specs.declared.stop.Stop.TheVariants.{Unwritten};
+ghost use Rattle.run_view.specs.Events.{Shows, plain_event};
+ghost use Rattle.run_view.specs.Shows.{NotesLine, due_event, line_of_shown, lines_with, may_be_printed, met_shown, plain_shown};
+ghost use Rattle.run_view.specs.Stops.{OutStop};
 
 use crate::Stop;
 use crate::chosen::{Meets, either, meets_all, meets_record, met_by, nothing_met, prints_records};
+use crate::events::{Event, Events, Unshown};
 use crate::item::Gathered;
-use crate::print::{Shown, format_of};
 use crate::seen::{flow_at, length_at, type_without};
-use crate::words::{Asked, Print};
-use edge_io::{NoMemory, Sink};
+use crate::words::Asked;
+use arrayvec::ArrayVec;
+use edge_io::NoMemory;
+use rule_book::Entry;
 use std::alloc::Global;
-use view_text::{RecordView, record_line};
+use std::mem;
+use view_text::{Format, ShownLine};
+use wire_base::Link;
 
-/// What is printed of the newest record.
+/// What is shown of a line.
+#[derive(Clone, Copy)]
+pub(crate) struct Shown<'a> {
+    /// It is one of the second engine.
+    pub(crate) second: bool,
+    /// Its frames went to the second engine.
+    pub(crate) given: bool,
+    /// The number of its record.
+    pub(crate) number: u32,
+    /// The time of its record, in nanoseconds since 1970.
+    pub(crate) time: u64,
+    pub(crate) link: Link,
+    /// The octets of its record.
+    pub(crate) octets: &'a [u8],
+    pub(crate) entry: &'a Entry,
+    /// How many frames stand before its own.
+    pub(crate) before: u64,
+}
+
+/// What is shown of the newest record.
 #[derive(Drop)]
 pub(crate) struct Printing {
     /// Which conditions its lines meet.
     pub(crate) met: Meets,
-    /// The text of its lines, if it meets the conditions on the record.
-    pub(crate) text: String,
-    /// The newest line is the last of its record, which is printed.
-    pub(crate) due: bool,
-    /// How many records were printed.
+    /// Its lines, if it meets the conditions on the record and others are to come.
+    pub(crate) lines: Vec<ShownLine>,
+    /// All its lines, if the newest is the last of them and the record is chosen.
+    pub(crate) due: Option<Vec<ShownLine>>,
+    /// How many records were chosen.
     pub(crate) records: u64,
 }
 
 impl Printing {
-    /// Returns that nothing was printed.
+    /// Returns that nothing was shown.
     pub(crate) fn new(alloc: Global) -> Printing
         ensures { result.records ≡ 0 }
     {
         Printing {
             met: nothing_met(),
-            text: String::new(alloc),
-            due: false,
+            lines: Vec::new(alloc),
+            due: None,
             records: 0,
         }
     }
 }
 
-/// Notes a line of a record; the text of the record is due if this is the last of its lines and it
-/// is chosen. So many other lines are to come.
+/// Notes a line of a record; the record is due if this is the last of its lines and it is chosen. So
+/// many other lines are to come.
 #[inline(always)]
 pub(crate) fn note_line(
     alloc: Global,
     asked: &Asked,
     shown: Shown<'_>,
     owed: u8,
-    gathered: &Gathered,
+    gathered: Gathered,
     printing: &mut Printing,
 ) -> Result<(), NoMemory>
     ensures { OnOk result (NotesLine printing.old printing.new asked.now owed
-        (met_shown asked.now shown.entry printing.old.met) (text_shown asked.now.print shown.entry gathered.now (string_bytes printing.old.text))) }
+        (met_shown asked.now (plain_shown shown.entry) printing.old.met)
+        (lines_with shown.entry.second (map plain_line printing.old.lines.items) (line_of_shown (plain_shown shown.entry) gathered))) }
 {
-    printing.due = false;
+    printing.due = None;
     if prints_records(asked) {
-        note_printed(alloc, asked, shown, owed, gathered, printing)
+        note_shown(alloc, asked, shown, owed, gathered, printing)
     } else {
         Ok(())
     }
 }
 
-// Does the same if records are printed.
+// Does the same if records are shown.
 #[inline(never)]
-fn note_printed(
+fn note_shown(
     alloc: Global,
     asked: &Asked,
     shown: Shown<'_>,
     owed: u8,
-    gathered: &Gathered,
+    gathered: Gathered,
     printing: &mut Printing,
 ) -> Result<(), NoMemory>
     requires wanted { spec.prints_records asked.now ≡ true }
-    requires none_due { printing.old.due ≡ false }
+    requires none_due { printing.old.due ≡ None }
     ensures { OnOk result (NotesLine printing.old printing.new asked.now owed
-        (met_shown asked.now shown.entry printing.old.met) (text_shown asked.now.print shown.entry gathered.now (string_bytes printing.old.text))) }
+        (met_shown asked.now (plain_shown shown.entry) printing.old.met)
+        (lines_with shown.entry.second (map plain_line printing.old.lines.items) (line_of_shown (plain_shown shown.entry) gathered))) }
 {
     let met = met_before(asked, shown, printing.met);
     printing.met = met;
     if !may_be_printed(met, owed) {
         return Ok(());
     }
-    add_line(alloc, asked.print, shown, gathered, &mut printing.text)?;
+    add_line(shown, gathered, &mut printing.lines)?;
     if owed == 0 {
-        printing.due = true;
+        printing.due = Some(mem::replace(&mut printing.lines, Vec::new(alloc)));
         printing.records = printing.records.saturating_add(1);
     }
     Ok(())
 }
 
-/// Prints the text that is due.
+/// Shows the record that is due.
 #[inline(always)]
-pub(crate) fn print_due<K: Sink>(printing: &Printing, out: &mut K) -> Result<(), Stop>
-    ensures prints { OnOk result (Appends (K.held out.old) (K.held out.new) (due_text printing.now)) }
-    ensures stops { IfErr result (λ stop. (stop ≡ Unwritten) × Cut (K.held out.old) (K.held out.new) (K.fault_count out.old) (K.fault_count out.new)
-        (due_text printing.now)) }
-    ensures faults { RisesOnlyAtErr (K.fault_count out.old) (K.fault_count out.new) result }
+pub(crate) fn show_due<E: Events>(
+    format: Format,
+    printing: &mut Printing,
+    out: &mut E,
+) -> Result<(), Stop>
+    ensures shows { OnOk result (Shows (E.shown out.old) (E.shown out.new) (due_event printing.old)) }
+    ensures rest { OnOk result (printing.new ≡ record printing.old { due = None }) }
+    ensures stops { IfErr result (OutStop (E.fault_count out.old) (E.fault_count out.new)) }
+    ensures faults { RisesOnlyAtErr (E.fault_count out.old) (E.fault_count out.new) result }
 {
-    if !printing.due {
-        return Ok(());
+    match printing.due.take() {
+        Some(lines) => show(format, Event::Record(lines), out),
+        None => Ok(()),
     }
-    match out.put(printing.text.as_bytes()) {
+}
+
+/// Shows an event.
+pub(crate) fn show<E: Events>(format: Format, event: Event, out: &mut E) -> Result<(), Stop>
+    ensures shows { OnOk result (Shows (E.shown out.old) (E.shown out.new) (plain_event event ∷ [])) }
+    ensures stops { IfErr result (OutStop (E.fault_count out.old) (E.fault_count out.new)) }
+    ensures faults { RisesOnlyAtErr (E.fault_count out.old) (E.fault_count out.new) result }
+{
+    match out.show(format, event) {
         Ok(()) => Ok(()),
-        Err(_) => Err(Stop::Unwritten),
+        Err(Unshown::Failed) => Err(Stop::Unwritten),
+        Err(Unshown::NoMemory) => Err(Stop::Memory),
     }
 }
 
 // Returns which conditions the lines of a record meet, this one and those before.
 fn met_before(asked: &Asked, shown: Shown<'_>, before: Meets) -> Meets
-    ensures { result ≡ met_shown asked.now shown.entry before }
+    ensures { result ≡ met_shown asked.now (plain_shown shown.entry) before }
 {
     let met = met_by(asked, shown.second, shown.entry, shown.link, shown.octets);
     if shown.second {
@@ -124,7 +163,7 @@ fn met_before(asked: &Asked, shown: Shown<'_>, before: Meets) -> Meets
     }
 }
 
-// Returns whether a record may be printed whose lines meet this, where so many others are to come.
+// Returns whether a record may be shown whose lines meet this, where so many others are to come.
 fn may_be_printed(met: Meets, owed: u8) -> bool
     ensures { result ≡ may_be_printed owed met }
 {
@@ -135,38 +174,35 @@ fn may_be_printed(met: Meets, owed: u8) -> bool
     }
 }
 
-// Adds a line of a record to the text of those before; the first line begins it.
+// Adds a line of a record to those before; one of the first engine begins a record.
 fn add_line(
-    alloc: Global,
-    print: Print,
     shown: Shown<'_>,
-    gathered: &Gathered,
-    text: &mut String,
+    gathered: Gathered,
+    lines: &mut Vec<ShownLine>,
 ) -> Result<(), NoMemory>
-    ensures { OnOk result (string_bytes text.new ≡ text_shown print shown.entry gathered.now (string_bytes text.old)) }
+    ensures { OnOk result (map plain_line lines.new.items ≡ lines_with shown.entry.second (map plain_line lines.old.items) (line_of_shown (plain_shown shown.entry) gathered)) }
 {
-    let line = line_of_record(alloc, print, shown, gathered)?;
+    let line = line_shown(shown, gathered);
     if !shown.second {
-        text.clear();
+        lines.clear();
     }
-    text.push_str(line.as_str())?;
+    lines.push(line)?;
     Ok(())
 }
 
-// Returns the line of a record.
-#[tactic(auto, unfolding(crate::specs::View::record_line))]
-fn line_of_record(
-    alloc: Global,
-    print: Print,
-    shown: Shown<'_>,
-    gathered: &Gathered,
-) -> Result<String, NoMemory>
-    ensures { IfOk result (λ line. string_bytes line ≡ view.record_line print
-        (record_shown shown.entry.second shown.entry.given shown.entry.number shown.entry.time
-        shown.entry.link shown.entry.octets.now shown.entry.entry.now shown.entry.before gathered.now)) }
+// Returns what is shown of a line.
+fn line_shown(shown: Shown<'_>, gathered: Gathered) -> ShownLine
+    ensures { plain_line result ≡ line_of_shown (plain_shown shown.entry) gathered }
 {
     let flow = flow_at(shown.link, shown.octets);
-    let view = RecordView {
+    let entry = copied(shown.entry);
+    let Gathered {
+        changes,
+        wants: _,
+        flow: _,
+        octets: _,
+    } = gathered;
+    ShownLine {
         number: u64::from(shown.number),
         second: shown.second,
         own: shown.entry.number,
@@ -174,10 +210,33 @@ fn line_of_record(
         flow,
         ethertype: type_without(flow, shown.link, shown.octets),
         length: length_at(shown.link, shown.octets),
-        entry: shown.entry,
+        entry,
         given: shown.given,
         before: shown.before,
-        changes: gathered.changes.as_slice(),
+        changes,
+    }
+}
+
+// Returns a copy of an entry.
+fn copied(entry: &Entry) -> Entry
+    ensures { plain result ≡ plain entry.now }
+{
+    let mut rules = ArrayVec::new();
+    let Ok(()) = rules.try_extend_from_slice(entry.rules.as_slice()) else {
+        unreachable!();
     };
-    record_line(alloc, format_of(print), &view)
+    let mut ended = ArrayVec::new();
+    let Ok(()) = ended.try_extend_from_slice(entry.ended.as_slice()) else {
+        unreachable!();
+    };
+    Entry {
+        number: entry.number,
+        side: entry.side,
+        verdict: entry.verdict,
+        packets: entry.packets,
+        rules,
+        era: entry.era,
+        begun: entry.begun,
+        ended,
+    }
 }

@@ -5,9 +5,8 @@ ghost use Rattle.edge_io.specs.Faults.{RisesOnlyAtErr};
 ghost use Rattle.pcap_file.specs.Records.{Packet};
 ghost use Rattle.pcap_file.specs.declared.head.Head.{Head};
 ghost use Rattle.capture_input.specs.Reading.{is_open_in};
-ghost use Rattle.run_view.specs.SourceStops as spec;
-ghost use Rattle.edge_io.specs.Seen.{seen_of};
-ghost use Rattle.run_view.specs.Standing.{InputAt, InputOpened, IsBehind, InputHeadStops, InputReads, InputStops, OutputAt, OutputHeadStops, OutputReads, OutputStops};
+ghost use Rattle.run_view.specs.Stops as spec;
+ghost use Rattle.run_view.specs.Standing.{InputAt, InputOpened, InputReads, InputStop, IsBehind, OutputAt, OutputHeadStop, OutputReads, OutputStop};
 ghost use Rattle.wire_base.specs.declared.limits.TheConstants.{MAX_CAPTURED};
 
 use crate::Stop;
@@ -20,7 +19,7 @@ use wire_base::Link;
 /// Reads the head of the input.
 pub(crate) fn open_input<I: Source>(source: &mut I) -> Result<Input, Stop>
     ensures opened { IfOk result (λ input. InputOpened input (I.left source.old) (I.left source.new)) }
-    ensures stops { IfErr result (InputHeadStops (I.left source.old) (I.fault_count source.old) (seen_of (I.left source.new) (I.fault_count source.new))) }
+    ensures stops { IfErr result (InputStop (I.left source.old) (I.fault_count source.old) (I.fault_count source.new)) }
     ensures faults { RisesOnlyAtErr (I.fault_count source.old) (I.fault_count source.new) result }
 {
     match Input::open(None, source) {
@@ -45,7 +44,7 @@ pub(crate) fn next_record<'a, I: Source>(
     ensures behind { IfOk result (λ given. IfSome given (λ _. IsBehind input.new)) }
     ensures stops { IfErr result (λ stop. (head : Head) (all : Option (List ℕ)) (packets : List Packet) →
         InputAt input.old head all (I.left source.old) packets →
-        InputStops all head packets (I.fault_count source.old) (seen_of (I.left source.new) (I.fault_count source.new)) stop) }
+        InputStop all (I.fault_count source.old) (I.fault_count source.new) stop) }
     ensures faults { RisesOnlyAtErr (I.fault_count source.old) (I.fault_count source.new) result }
 {
     whole_is_input();
@@ -76,7 +75,7 @@ pub(crate) fn open_output<O: Source>(link: Link, source: &mut O) -> Result<Reade
     ensures opened { IfOk result (λ reader. OutputAt reader reader.head (O.left source.old) (O.left source.new) []) }
     ensures goes_on { IfOk result (λ reader. reader.is_open ≡ true) }
     ensures same { IfOk result (λ reader. reader.head.link ≡ link) }
-    ensures stops { IfErr result (OutputHeadStops link (O.left source.old) (O.fault_count source.old) (seen_of (O.left source.new) (O.fault_count source.new))) }
+    ensures stops { IfErr result (OutputHeadStop link (O.left source.old) (O.fault_count source.old) (O.fault_count source.new)) }
     ensures faults { RisesOnlyAtErr (O.fault_count source.old) (O.fault_count source.new) result }
 {
     match read_head(source) {
@@ -109,7 +108,7 @@ pub(crate) fn next_frame<'a, O: Source>(
     ensures goes_on { IfOk result (λ given. IfSome given (λ _. reader.new.is_open ≡ true)) }
     ensures stops { IfErr result (λ stop. (head : Head) (all : Option (List ℕ)) (frames : List Packet) →
         OutputAt reader.old head all (O.left source.old) frames →
-        OutputStops all head frames (O.fault_count source.old) (seen_of (O.left source.new) (O.fault_count source.new)) stop) }
+        OutputStop all (O.fault_count source.old) (O.fault_count source.new) stop) }
     ensures faults { RisesOnlyAtErr (O.fault_count source.old) (O.fault_count source.new) result }
 {
     match reader.next(source, buffer) {

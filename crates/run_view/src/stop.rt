@@ -1,5 +1,5 @@
 //! Why a run is not viewed to its end, and the line that says so.
-ghost use Rattle.std.specs.Prelude.{◌≡◌, IfOk, OnErr, option_map, string_bytes};
+ghost use Rattle.std.specs.Prelude.{◌≡◌};
 ghost use Rattle.run_view.specs.Stops as spec;
 
 use capture_input::InputFault;
@@ -53,9 +53,7 @@ impl From<AllocError> for Stop {
 }
 
 // Returns the word of the fault of a capture.
-fn fault_word(fault: InputFault) -> &'static str
-    ensures { result.now ≡ spec.fault_word fault }
-{
+fn fault_word(fault: InputFault) -> &'static str {
     match fault {
         InputFault::Cut => "cut",
         InputFault::Magic => "magic",
@@ -103,10 +101,7 @@ impl Stop {
     }
 
     // Returns the words that say why; None for an output that failed.
-    fn reason(self, alloc: Global) -> Result<Option<String>, AllocError>
-        ensures made { IfOk result (λ reason. option_map string_bytes reason ≡ spec.reason_of self) }
-        ensures unmade { OnErr result (spec.HasLine self) }
-    {
+    fn reason(self, alloc: Global) -> Result<Option<String>, AllocError> {
         let reason = match self {
             Stop::Words => String::from_str(alloc, "stop words")?,
             Stop::Record(number) => format!(in alloc; "no record {number}")?,
@@ -128,10 +123,7 @@ impl Stop {
     }
 
     /// Returns the line, with its line feed; none for an output that failed.
-    pub(crate) fn line(self, alloc: Global, format: Format) -> Result<String, NoMemory>
-        ensures made { IfOk result (λ line. string_bytes line ≡ spec.stop_line format self) }
-        ensures unmade { OnErr result (spec.HasLine self) }
-    {
+    pub(crate) fn line(self, alloc: Global, format: Format) -> Result<String, NoMemory> {
         match self.reason(alloc)? {
             Some(reason) => stop_line(alloc, format, self.status(), reason.as_str()),
             None => Ok(String::new(alloc)),

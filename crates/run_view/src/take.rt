@@ -1,65 +1,64 @@
 //! Takes the lines of the report, each with its record and its frames.
-ghost use Rattle.std.specs.Prelude.{◌≡◌, ◌+◌, ◌<◌, ℕ, List, true, false, IfErr, IfOk, None, OnOk};
+ghost use Rattle.std.specs.Prelude.{◌≡◌, ◌⊎◌, ◌+◌, ◌<◌, ℕ, List, true, false, IfErr, IfOk, OnOk};
 ghost use Rattle.std.specs.declared.option.Option.{Option};
 ghost use Rattle.pcap_file.specs.declared.head.Head.{Head};
 ghost use Rattle.rule_book.specs.Entries.{plain};
 ghost use Rattle.rule_book.specs.Reports.{IsEntryOf};
 ghost use Rattle.run_view.specs.Ahead.{left_in};
+ghost use Rattle.run_view.specs.Events.{Event};
 ghost use Rattle.run_view.specs.Forms.{version_of as version_of_form};
 ghost use Rattle.run_view.specs.Items.{Item, line_by};
+ghost use Rattle.run_view.specs.Runs.{counts_of, sources_of};
 ghost use Rattle.run_view.specs.SoFar.{Ends, MayTake, SoFar, Taken, WentOn, WentOnBy, ends_of, lines_in, turn_in};
-ghost use Rattle.run_view.specs.Causes.{EntriesStop, counts_of, moment_of, sources_of};
-ghost use Rattle.run_view.specs.Going.{Going, IsSameRun, StepsTo};
-ghost use Rattle.run_view.specs.Why.{LineStops};
-ghost use Rattle.edge_io.specs.Faults.{RisesOnlyAtErr};
-ghost use Rattle.edge_io.specs.Seen.{Seen, seen_of};
+ghost use Rattle.run_view.specs.Progress.{Going, IsSameRun, LineStop, StepsTo};
+ghost use Rattle.run_view.specs.Stops.{RestStop};
+ghost use Rattle.edge_io.specs.Faults.{RisesOnlyAtErr, Rose};
 
 use crate::Stop;
+use crate::events::Events;
 use crate::form::{answers, is_both, own_frames, version_of};
 use crate::item::{gather, hold, nothing, time_of};
 use crate::judged::{kinds_by, second_kinds};
-use crate::print::Shown;
+use crate::print::format_of;
 use crate::seen::Original;
-use crate::show::{note_line, print_due};
+use crate::show::{Shown, note_line, show_due};
 use crate::sources::next_record;
 use crate::tally::wants_of;
 use crate::told::{Turn, entry_part, is_last};
 use crate::viewer::Viewer;
-use edge_io::{Sink, Source};
+use edge_io::Source;
 use rule_book::{Entry, read_entry};
 use std::alloc::Global;
 
 /// Takes the next line of the report: that of an entry, and returns true, or the last one of a run
 /// with as many records and frames as were read, and returns false.
-pub(crate) fn step<I: Source, O: Source, R: Source, K: Sink>(
+pub(crate) fn step<I: Source, O: Source, R: Source, E: Events>(
     alloc: Global,
     viewer: &mut Viewer,
     input: &mut I,
     output: &mut O,
     report: &mut R,
-    out: &mut K,
+    out: &mut E,
 ) -> Result<bool, Stop>
     requires may { MayTake viewer.old }
     ensures going { IfOk result (λ more. (head : Head) (before : Ends) (told : Option (List ℕ)) →
-        Going viewer.old head before (ends_of (I.left input.old) (O.left output.old) (K.held out.old)) told
+        Going viewer.old head before (ends_of (I.left input.old) (O.left output.old) (E.shown out.old)) told
         (left_in viewer.old.lines (R.left report.old)) →
-        StepsTo more viewer.new head before (ends_of (I.left input.new) (O.left output.new) (K.held out.new)) told
+        StepsTo more viewer.new head before (ends_of (I.left input.new) (O.left output.new) (E.shown out.new)) told
         (left_in viewer.old.lines (R.left report.old)) (left_in viewer.new.lines (R.left report.new))) }
     ensures may { OnOk result (MayTake viewer.new) }
     ensures fewer { IfOk result (λ more. more ≡ true → lines_in viewer.new ≡ lines_in viewer.old + 1) }
     ensures same { OnOk result (IsSameRun viewer.old viewer.new) }
     ensures stops { IfErr result (λ stop. (head : Head) (before : Ends) (told : Option (List ℕ)) →
-        Going viewer.old head before (ends_of (I.left input.old) (O.left output.old) (K.held out.old)) told
+        Going viewer.old head before (ends_of (I.left input.old) (O.left output.old) (E.shown out.old)) told
         (left_in viewer.old.lines (R.left report.old)) →
-        EntriesStop viewer.old.asked (sources_of before.read before.written told) viewer.old.form viewer.old.files.head head before.printed
-        (K.held out.new)
-        (counts_of (I.fault_count input.old) (O.fault_count output.old) (R.fault_count report.old) (K.fault_count out.old))
-        (moment_of (I.left input.new) (I.fault_count input.new) (O.left output.new) (O.fault_count output.new)
-        (R.left report.new) (R.fault_count report.new) (K.held out.new) (K.fault_count out.new)) stop) }
+        RestStop viewer.old.form (sources_of before.read before.written told)
+        (counts_of (I.fault_count input.old) (O.fault_count output.old) (R.fault_count report.old) (E.fault_count out.old))
+        (counts_of (I.fault_count input.new) (O.fault_count output.new) (R.fault_count report.new) (E.fault_count out.new)) stop) }
     ensures input_faults { RisesOnlyAtErr (I.fault_count input.old) (I.fault_count input.new) result }
     ensures output_faults { RisesOnlyAtErr (O.fault_count output.old) (O.fault_count output.new) result }
     ensures report_faults { RisesOnlyAtErr (R.fault_count report.old) (R.fault_count report.new) result }
-    ensures out_faults { RisesOnlyAtErr (K.fault_count out.old) (K.fault_count out.new) result }
+    ensures out_faults { RisesOnlyAtErr (E.fault_count out.old) (E.fault_count out.new) result }
 {
     let number = viewer.files.count + viewer.second_count + 2;
     let Ok(()) = viewer.lines.next(report) else {
@@ -75,7 +74,8 @@ pub(crate) fn step<I: Source, O: Source, R: Source, K: Sink>(
                 return Err(Stop::Report(number));
             }
             take(alloc, viewer, entry, input, output)?;
-            print_due(&viewer.printing, out)?;
+            let format = format_of(viewer.asked.print);
+            show_due(format, &mut viewer.printing, out)?;
             Ok(true)
         }
         None if is_last(text, turn) => Ok(false),
@@ -112,21 +112,14 @@ fn take<I: Source, O: Source>(
     output: &mut O,
 ) -> Result<(), Stop>
     requires may { MayTake viewer.old }
-    ensures taken { OnOk result ((head : Head) (before : Ends) (printed : Option (List ℕ)) (items : List Item) →
-        SoFar viewer.old head before (ends_of (I.left input.old) (O.left output.old) printed) items →
+    ensures taken { OnOk result ((head : Head) (before : Ends) (shown : Option (List Event)) (items : List Item) →
+        SoFar viewer.old head before (ends_of (I.left input.old) (O.left output.old) shown) items →
         IsEntryOf (version_of_form viewer.old.form) (plain entry.now) → entry.now.number ≡ (turn_in viewer.old).done + 1 →
-        Taken viewer.new head before (ends_of (I.left input.new) (O.left output.new) printed) items
+        Taken viewer.new head before (ends_of (I.left input.new) (O.left output.new) shown) items
         (line_by (turn_in viewer.old).second (plain entry.now))) }
     ensures went { OnOk result (WentOn viewer.old viewer.new) }
-    ensures stops { IfErr result (λ stop. (report out : ℕ) (report_now out_now : Seen) →
-        LineStops viewer.old (plain entry.now) (I.left input.old) (O.left output.old)
-        (counts_of (I.fault_count input.old) (O.fault_count output.old) report out)
-        (record {
-          input = seen_of (I.left input.new) (I.fault_count input.new);
-          output = seen_of (O.left output.new) (O.fault_count output.new);
-          report = report_now;
-          out = out_now;
-        }) stop) }
+    ensures stops { IfErr result (LineStop viewer.old (plain entry.now) (I.left input.old) (O.left output.old)
+        (Rose (I.fault_count input.old) (I.fault_count input.new) ⊎ Rose (O.fault_count output.old) (O.fault_count output.new))) }
     ensures input_faults { RisesOnlyAtErr (I.fault_count input.old) (I.fault_count input.new) result }
     ensures output_faults { RisesOnlyAtErr (O.fault_count output.old) (O.fault_count output.new) result }
 {
@@ -147,20 +140,13 @@ fn take_first<I: Source, O: Source>(
 ) -> Result<(), Stop>
     requires may { MayTake viewer.old }
     requires none_owed { viewer.old.owed ≡ 0 }
-    ensures taken { OnOk result ((head : Head) (before : Ends) (printed : Option (List ℕ)) (items : List Item) →
-        SoFar viewer.old head before (ends_of (I.left input.old) (O.left output.old) printed) items →
+    ensures taken { OnOk result ((head : Head) (before : Ends) (shown : Option (List Event)) (items : List Item) →
+        SoFar viewer.old head before (ends_of (I.left input.old) (O.left output.old) shown) items →
         IsEntryOf (version_of_form viewer.old.form) (plain entry.now) → entry.now.number ≡ viewer.old.files.count + 1 →
-        Taken viewer.new head before (ends_of (I.left input.new) (O.left output.new) printed) items (line_by false (plain entry.now))) }
+        Taken viewer.new head before (ends_of (I.left input.new) (O.left output.new) shown) items (line_by false (plain entry.now))) }
     ensures went { OnOk result (WentOnBy false viewer.old viewer.new) }
-    ensures stops { IfErr result (λ stop. (report out : ℕ) (report_now out_now : Seen) →
-        LineStops viewer.old (plain entry.now) (I.left input.old) (O.left output.old)
-        (counts_of (I.fault_count input.old) (O.fault_count output.old) report out)
-        (record {
-          input = seen_of (I.left input.new) (I.fault_count input.new);
-          output = seen_of (O.left output.new) (O.fault_count output.new);
-          report = report_now;
-          out = out_now;
-        }) stop) }
+    ensures stops { IfErr result (LineStop viewer.old (plain entry.now) (I.left input.old) (O.left output.old)
+        (Rose (I.fault_count input.old) (I.fault_count input.new) ⊎ Rose (O.fault_count output.old) (O.fault_count output.new))) }
     ensures input_faults { RisesOnlyAtErr (I.fault_count input.old) (I.fault_count input.new) result }
     ensures output_faults { RisesOnlyAtErr (O.fault_count output.old) (O.fault_count output.new) result }
 {
@@ -210,7 +196,7 @@ fn take_first<I: Source, O: Source>(
         &viewer.asked,
         shown,
         viewer.owed,
-        &gathered,
+        gathered,
         &mut viewer.printing,
     )?;
     Ok(())
@@ -225,19 +211,13 @@ fn take_second<O: Source>(
 ) -> Result<(), Stop>
     requires may { MayTake viewer.old }
     requires owed { 0 < viewer.old.owed }
-    ensures taken { OnOk result ((read : Option (List ℕ)) (head : Head) (before : Ends) (printed : Option (List ℕ)) (items : List Item) →
-        SoFar viewer.old head before (ends_of read (O.left output.old) printed) items →
+    ensures taken { OnOk result ((read : Option (List ℕ)) (head : Head) (before : Ends) (shown : Option (List Event)) (items : List Item) →
+        SoFar viewer.old head before (ends_of read (O.left output.old) shown) items →
         IsEntryOf (version_of_form viewer.old.form) (plain entry.now) → entry.now.number ≡ viewer.old.second_count + 1 →
-        Taken viewer.new head before (ends_of read (O.left output.new) printed) items (line_by true (plain entry.now))) }
+        Taken viewer.new head before (ends_of read (O.left output.new) shown) items (line_by true (plain entry.now))) }
     ensures went { OnOk result (WentOnBy true viewer.old viewer.new) }
-    ensures stops { IfErr result (λ stop. (read : Option (List ℕ)) (input report out : ℕ) (input_now report_now out_now : Seen) →
-        LineStops viewer.old (plain entry.now) read (O.left output.old) (counts_of input (O.fault_count output.old) report out)
-        (record {
-          input = input_now;
-          output = seen_of (O.left output.new) (O.fault_count output.new);
-          report = report_now;
-          out = out_now;
-        }) stop) }
+    ensures stops { IfErr result (λ stop. (read : Option (List ℕ)) → LineStop viewer.old (plain entry.now) read (O.left output.old)
+        (Rose (O.fault_count output.old) (O.fault_count output.new)) stop) }
     ensures output_faults { RisesOnlyAtErr (O.fault_count output.old) (O.fault_count output.new) result }
 {
     viewer.owed -= 1;
@@ -277,7 +257,7 @@ fn take_second<O: Source>(
         &viewer.asked,
         shown,
         viewer.owed,
-        &gathered,
+        gathered,
         &mut viewer.printing,
     )?;
     Ok(())

@@ -1,13 +1,4 @@
 //! What is counted over a run.
-ghost use Rattle.std.specs.Prelude.{◌≡◌, OnOk, [], map, true, false, Some};
-ghost use Rattle.rule_book.specs.Entries.{plain};
-ghost use Rattle.run_notes.specs.Counts.{plain_counts, plain_line, with_line};
-ghost use Rattle.run_notes.specs.Counts.{no_counts as no_notes};
-ghost use Rattle.run_view.specs.Eras as rows;
-ghost use Rattle.run_view.specs.Items.{if_inward as if_inward_of};
-ghost use Rattle.run_view.specs.Steps.{wants_of as wants_of_line};
-ghost use Rattle.run_view.specs.Rows.{table_of};
-ghost use Rattle.run_view.specs.Summary as spec;
 
 use crate::eras::{Eras, Told, add_record, begin, bring, end_all, from_outside};
 use crate::item::{Gathered, Wants};
@@ -39,14 +30,7 @@ pub(crate) struct Tally {
 
 impl Tally {
     /// Returns that nothing is known.
-    pub(crate) fn new(alloc: Global) -> Tally
-        ensures sides { result.sides ≡ spec.no_sides }
-        ensures second_sides { result.second_sides ≡ spec.no_sides }
-        ensures rules { result.rules.items ≡ [] }
-        ensures eras { table_of result.eras ≡ [] }
-        ensures second_eras { table_of result.second_eras ≡ [] }
-        ensures notes { plain_counts result.notes ≡ no_notes }
-    {
+    pub(crate) fn new(alloc: Global) -> Tally {
         Tally {
             sides: no_sides(),
             second_sides: no_sides(),
@@ -65,14 +49,7 @@ impl Tally {
         line: Line<'_>,
         time: u64,
         gathered: &Gathered,
-    ) -> Result<(), NoMemory>
-        ensures sides { OnOk result (self.new.sides ≡ spec.with_side (plain line.entry.entry.now).side (plain line.entry.entry.now).verdict self.old.sides) }
-        ensures second_sides { OnOk result (self.new.second_sides ≡ self.old.second_sides) }
-        ensures rules { OnOk result (self.new.rules.items ≡ spec.all_counted (plain line.entry.entry.now).side (plain line.entry.entry.now).rules self.old.rules.items) }
-        ensures eras { OnOk result (table_of self.new.eras ≡ rows.with_entry false (plain line.entry.entry.now) time (if_inward_of (plain line.entry.entry.now).side gathered.now.octets) gathered.now.flow (table_of self.old.eras)) }
-        ensures second_eras { OnOk result (table_of self.new.second_eras ≡ table_of self.old.second_eras) }
-        ensures notes { OnOk result (plain_counts self.new.notes ≡ with_line (plain_line line.entry) (plain_counts self.old.notes)) }
-    {
+    ) -> Result<(), NoMemory> {
         let entry = line.entry;
         self.notes.take(line)?;
         add_to_side(&mut self.sides, entry.side, entry.verdict);
@@ -88,14 +65,7 @@ impl Tally {
         entry: &Entry,
         time: u64,
         gathered: &Gathered,
-    ) -> Result<(), NoMemory>
-        ensures sides { OnOk result (self.new.sides ≡ self.old.sides) }
-        ensures second_sides { OnOk result (self.new.second_sides ≡ spec.with_side (plain entry.now).side (plain entry.now).verdict self.old.second_sides) }
-        ensures rules { OnOk result (self.new.rules.items ≡ spec.all_counted (plain entry.now).side (plain entry.now).rules self.old.rules.items) }
-        ensures eras { OnOk result (table_of self.new.eras ≡ rows.changed_if judged.era (rows.with_sent (if_inward_of judged.side gathered.now.octets)) (table_of self.old.eras)) }
-        ensures second_eras { OnOk result (table_of self.new.second_eras ≡ rows.with_entry true (plain entry.now) time (if_inward_of (plain entry.now).side gathered.now.octets) gathered.now.flow (table_of self.old.second_eras)) }
-        ensures notes { OnOk result (self.new.notes ≡ self.old.notes) }
-    {
+    ) -> Result<(), NoMemory> {
         add_to_side(&mut self.second_sides, entry.side, entry.verdict);
         count_rules(&mut self.rules, entry.side, entry.rules.as_slice())?;
         let octets = if_inward(judged.side, gathered.octets);
@@ -105,9 +75,7 @@ impl Tally {
 }
 
 /// Returns what is wanted of a line, whose record belongs to this era of the first engine.
-pub(crate) fn wants_of(first: Option<u32>, entry: &Entry) -> Wants
-    ensures { result ≡ wants_of_line first (plain entry.now) }
-{
+pub(crate) fn wants_of(first: Option<u32>, entry: &Entry) -> Wants {
     let of_era = first.is_some() || entry.era.is_some() || entry.begun.is_some();
     Wants {
         flow: entry.begun.is_some(),
@@ -116,18 +84,14 @@ pub(crate) fn wants_of(first: Option<u32>, entry: &Entry) -> Wants
 }
 
 // Returns a count of what goes inwards.
-fn if_inward(side: Option<Side>, count: u64) -> u64
-    ensures { result ≡ if_inward_of side count }
-{
+fn if_inward(side: Option<Side>, count: u64) -> u64 {
     match side {
         Some(Side::Inward) => count,
         Some(Side::Outward) | None => 0,
     }
 }
 
-fn no_counts() -> Counts
-    ensures { result ≡ spec.no_counts }
-{
+fn no_counts() -> Counts {
     Counts {
         pass: 0,
         fix: 0,
@@ -136,9 +100,7 @@ fn no_counts() -> Counts
     }
 }
 
-fn no_sides() -> Sides
-    ensures { result ≡ spec.no_sides }
-{
+fn no_sides() -> Sides {
     Sides {
         inward: no_counts(),
         outward: no_counts(),
@@ -154,9 +116,7 @@ fn note_eras(
     entry: &Entry,
     time: u64,
     gathered: &Gathered,
-) -> Result<(), NoMemory>
-    ensures { OnOk result (table_of eras.new ≡ rows.with_entry second (plain entry.now) time (if_inward_of (plain entry.now).side gathered.now.octets) gathered.now.flow (table_of eras.old)) }
-{
+) -> Result<(), NoMemory> {
     let told = Told {
         time,
         octets: if_inward(entry.side, gathered.octets),
@@ -169,9 +129,7 @@ fn note_eras(
 }
 
 // Adds one with this verdict on this side.
-fn add_to_side(sides: &mut Sides, side: Option<Side>, verdict: Verdict)
-    ensures { sides.new ≡ spec.with_side side verdict sides.old }
-{
+fn add_to_side(sides: &mut Sides, side: Option<Side>, verdict: Verdict) {
     match side {
         Some(Side::Inward) => add_verdict(&mut sides.inward, verdict),
         Some(Side::Outward) => add_verdict(&mut sides.outward, verdict),
@@ -180,9 +138,7 @@ fn add_to_side(sides: &mut Sides, side: Option<Side>, verdict: Verdict)
 }
 
 // Adds one with this verdict.
-fn add_verdict(counts: &mut Counts, verdict: Verdict)
-    ensures { counts.new ≡ spec.with_verdict verdict counts.old }
-{
+fn add_verdict(counts: &mut Counts, verdict: Verdict) {
     match verdict {
         Verdict::Pass => counts.pass = counts.pass.saturating_add(1),
         Verdict::Fix => counts.fix = counts.fix.saturating_add(1),
@@ -196,9 +152,7 @@ fn count_rules(
     counts: &mut Vec<RuleCount>,
     side: Option<Side>,
     rules: &[Rule],
-) -> Result<(), NoMemory>
-    ensures { OnOk result (counts.new.items ≡ spec.all_counted side rules.now counts.old.items) }
-{
+) -> Result<(), NoMemory> {
     for rule in rules {
         count_rule(counts, side, *rule)?;
     }
@@ -206,9 +160,7 @@ fn count_rules(
 }
 
 // Counts a line of this side that names this rule.
-fn count_rule(counts: &mut Vec<RuleCount>, side: Option<Side>, rule: Rule) -> Result<(), NoMemory>
-    ensures { OnOk result (counts.new.items ≡ spec.counted side rule counts.old.items) }
-{
+fn count_rule(counts: &mut Vec<RuleCount>, side: Option<Side>, rule: Rule) -> Result<(), NoMemory> {
     let number = rule.number();
     for place in 0..counts.len() {
         let mut count = counts[place];
@@ -230,9 +182,7 @@ fn count_rule(counts: &mut Vec<RuleCount>, side: Option<Side>, rule: Rule) -> Re
 }
 
 // Adds a line of this side to a count.
-fn add_line(count: &mut RuleCount, side: Option<Side>)
-    ensures { count.new ≡ spec.with_line side count.old }
-{
+fn add_line(count: &mut RuleCount, side: Option<Side>) {
     match side {
         Some(Side::Inward) => count.inward = count.inward.saturating_add(1),
         Some(Side::Outward) => count.outward = count.outward.saturating_add(1),
@@ -241,9 +191,7 @@ fn add_line(count: &mut RuleCount, side: Option<Side>)
 }
 
 /// Counts the eras of both engines by how they were opened and ended.
-pub(crate) fn era_counts(tally: &Tally) -> EraCounts
-    ensures { result ≡ spec.with_eras (table_of tally.now.second_eras) (spec.with_eras (table_of tally.now.eras) spec.no_eras) }
-{
+pub(crate) fn era_counts(tally: &Tally) -> EraCounts {
     let none = EraCounts {
         all: 0,
         live: 0,
@@ -260,9 +208,7 @@ pub(crate) fn era_counts(tally: &Tally) -> EraCounts
 }
 
 // Adds the eras of a table.
-fn with_eras(eras: &Eras, before: EraCounts) -> EraCounts
-    ensures { result ≡ spec.with_eras (table_of eras.now) before }
-{
+fn with_eras(eras: &Eras, before: EraCounts) -> EraCounts {
     let mut counts = before;
     for place in 0..eras.len() {
         let Some((_, row)) = eras.get_index(place) else {
@@ -274,9 +220,7 @@ fn with_eras(eras: &Eras, before: EraCounts) -> EraCounts
 }
 
 // Adds an era that was opened and ended so.
-fn with_era(opened: Option<Opened>, ended: Option<Ended>, before: EraCounts) -> EraCounts
-    ensures { result ≡ spec.with_era opened ended before }
-{
+fn with_era(opened: Option<Opened>, ended: Option<Ended>, before: EraCounts) -> EraCounts {
     let mut counts = before;
     counts.all = counts.all.saturating_add(1);
     match ended {
@@ -289,9 +233,7 @@ fn with_era(opened: Option<Opened>, ended: Option<Ended>, before: EraCounts) -> 
     counts
 }
 
-fn add_end(counts: &mut EraCounts, reason: Reason)
-    ensures { counts.new ≡ spec.with_end reason counts.old }
-{
+fn add_end(counts: &mut EraCounts, reason: Reason) {
     match reason {
         Reason::Reset => counts.reset = counts.reset.saturating_add(1),
         Reason::Evicted => counts.evicted = counts.evicted.saturating_add(1),
@@ -300,9 +242,7 @@ fn add_end(counts: &mut EraCounts, reason: Reason)
     }
 }
 
-fn add_opened(counts: &mut EraCounts, opened: Opened)
-    ensures { counts.new ≡ spec.with_opened (Some opened) counts.old }
-{
+fn add_opened(counts: &mut EraCounts, opened: Opened) {
     match opened {
         Opened::In => counts.opened_in = counts.opened_in.saturating_add(1),
         Opened::Out => counts.opened_out = counts.opened_out.saturating_add(1),

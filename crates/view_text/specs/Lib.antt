@@ -1,15 +1,1 @@
-pub mod Views
-pub mod Times
-pub mod Words
-pub mod Fields
-pub mod Plain
-pub mod Changes
-pub mod Records
-pub mod Eras
-pub mod Runs
-pub mod Notes
-pub mod Text
-pub mod Json
-pub mod Table
 pub mod Lines
-pub mod Laws

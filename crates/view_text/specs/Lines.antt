@@ -1,20 +1,40 @@
--- A line in each format.
-use Rattle.std.specs.Prelude.{ℕ, List}
-use Rattle.std.specs.List.{flat_map}
-use Rattle.run_notes.specs.declared.list.Note.{Note}
-use Rattle.view_text.specs.Fields.{PlainField}
-use Rattle.view_text.specs.Json.{json_line}
-use Rattle.view_text.specs.Notes.{note_fields}
-use Rattle.view_text.specs.Table.{table_line}
-use Rattle.view_text.specs.Text.{text_line}
-use Rattle.view_text.specs.declared.view.Format.{Format}
-use Rattle.view_text.specs.declared.view.Format.TheVariants.{Text, Json, Table}
+-- What is shown of a line of the report, over plain values.
+use Rattle.std.specs.Prelude.{ℕ, Bool, List, Option, map}
+use Rattle.rule_book.specs.Entries.{PlainEntry}
+use Rattle.rule_book.specs.Entries as entries
+use Rattle.frame_view.specs.Changes.{PlainChange}
+use Rattle.frame_view.specs.Changes as changes
+use Rattle.frame_view.specs.declared.flow.Flow.{Flow}
+use Rattle.view_text.specs.declared.view.ShownLine.{ShownLine}
 
-abbrev pub line_of : Format → List PlainField → List ℕ
-line_of Text fields = text_line fields
-line_of Json fields = json_line fields
-line_of Table fields = table_line fields
+-- A line of the report with its record: `own` is the number of the line, `time` is in nanoseconds since the beginning of 1970, and the entry has side,
+-- verdict, rules, and the eras that the line belongs to, began and ended. Its frames are given to a second engine, or stand in OUT behind `before` others;
+-- `changes` is what differs between the record and them.
+pub record PlainLine : Type 0 where
+  pub number : ℕ
+  pub second : Bool
+  pub own : ℕ
+  pub time : ℕ
+  pub flow : Option Flow
+  pub ethertype : Option ℕ
+  pub length : ℕ
+  pub entry : PlainEntry
+  pub given : Bool
+  pub before : ℕ
+  pub changes : List PlainChange
 
--- the lines of notes, in their order
-abbrev pub notes_text : Format → List Note → List ℕ
-notes_text format notes = flat_map (λ note. line_of format (note_fields note)) notes
+abbrev pub plain_line : ShownLine → PlainLine
+plain_line line =
+    record {
+      number = line.number;
+      second = line.second;
+      own = line.own;
+      time = line.time;
+      flow = line.flow;
+      ethertype = line.ethertype;
+      length = line.length;
+      entry = entries.plain line.entry;
+      given = line.given;
+      before = line.before;
+      changes = map changes.plain line.changes.items;
+    }

@@ -1,13 +1,4 @@
 //! What differs between a record and its frames, in each format.
-ghost use Rattle.std.specs.Prelude.{◌≡◌, ◌++◌, codes, map, OnOk, string_bytes};
-ghost use Rattle.frame_view.specs.Changes as changes;
-ghost use Rattle.view_text.specs.Changes as parts;
-ghost use Rattle.view_text.specs.Fields as fields;
-ghost use Rattle.view_text.specs.Json as json;
-ghost use Rattle.view_text.specs.Json.{joined};
-ghost use Rattle.view_text.specs.Plain as spec;
-ghost use Rattle.view_text.specs.Plain.{plain_part, plain_value};
-ghost use Rattle.view_text.specs.Text as words;
 
 use crate::Format;
 use crate::flow::{ack_of, flags_of, proto_of, seq_of};
@@ -20,9 +11,7 @@ use frame_view::{Change, Field, Flow, Made, PayloadChange, Replaced, Said};
 use wire_base::Addr;
 
 // Returns the number in a field.
-fn number_of(field: Field, number: u32) -> Value<'static>
-    ensures { plain_value result ≡ parts.number_of field number }
-{
+fn number_of(field: Field, number: u32) -> Value<'static> {
     match field {
         Field::HeaderChecksum | Field::Checksum => Value::Word(Word::Hex16(number)),
         Field::Source | Field::Destination => Value::Word(Word::Address(Addr(number))),
@@ -32,9 +21,7 @@ fn number_of(field: Field, number: u32) -> Value<'static>
 }
 
 // Returns what a frame says in a field.
-fn said_value(field: Field, said: &Said) -> Value<'_>
-    ensures { plain_value result ≡ parts.said_value field (changes.plain_said said.now) }
-{
+fn said_value(field: Field, said: &Said) -> Value<'_> {
     match said {
         Said::Nothing => Value::Absent,
         Said::Number(number) => number_of(field, *number),
@@ -43,9 +30,7 @@ fn said_value(field: Field, said: &Said) -> Value<'_>
 }
 
 // Returns octets behind their count, where there are some.
-fn some_octets(octets: &[u8]) -> Value<'_>
-    ensures { plain_value result ≡ parts.some_octets octets.now }
-{
+fn some_octets(octets: &[u8]) -> Value<'_> {
     if octets.is_empty() {
         Value::Absent
     } else {
@@ -54,9 +39,7 @@ fn some_octets(octets: &[u8]) -> Value<'_>
 }
 
 // Returns that a frame that norm made itself is compared with no record.
-fn compared(kind: Made) -> Part<'static>
-    ensures { plain_part result ≡ parts.compared kind }
-{
+fn compared(kind: Made) -> Part<'static> {
     match kind {
         Made::Probe => hidden("compared", Value::Mark(false)),
         Made::Datagram => dashed("compared", ", compared with no record", Value::Mark(false)),
@@ -64,9 +47,7 @@ fn compared(kind: Made) -> Part<'static>
 }
 
 // Returns what differs in a field.
-fn field_parts<'a>(frame: u32, field: Field, from: &'a Said, to: &'a Said) -> [Part<'a>; 4]
-    ensures { map plain_part result ≡ parts.change_parts (changes.in_field frame field (changes.plain_said from.now) (changes.plain_said to.now)) }
-{
+fn field_parts<'a>(frame: u32, field: Field, from: &'a Said, to: &'a Said) -> [Part<'a>; 4] {
     [
         hidden("frame", Value::Number(u64::from(frame))),
         shown("field", "", of_text(field.name())),
@@ -76,9 +57,7 @@ fn field_parts<'a>(frame: u32, field: Field, from: &'a Said, to: &'a Said) -> [P
 }
 
 // Returns what differs in a payload, but for the runs that were replaced.
-fn payload_parts(frame: u32, change: &PayloadChange) -> [Part<'_>; 5]
-    ensures { map plain_part result ≡ parts.change_parts (changes.in_payload frame (changes.plain_payload change.now)) }
-{
+fn payload_parts(frame: u32, change: &PayloadChange) -> [Part<'_>; 5] {
     [
         hidden("frame", Value::Number(u64::from(frame))),
         shown("field", "", of_text("payload")),
@@ -89,9 +68,7 @@ fn payload_parts(frame: u32, change: &PayloadChange) -> [Part<'_>; 5]
 }
 
 // Returns what a frame is that norm made itself.
-fn made_parts(frame: u32, kind: Made, flow: Option<Flow>, length: u64) -> [Part<'static>; 8]
-    ensures { map plain_part result ≡ parts.change_parts (changes.in_made frame kind flow length) }
-{
+fn made_parts(frame: u32, kind: Made, flow: Option<Flow>, length: u64) -> [Part<'static>; 8] {
     [
         hidden("frame", Value::Number(u64::from(frame))),
         shown("field", "", of_text(made_word(kind))),
@@ -105,9 +82,7 @@ fn made_parts(frame: u32, kind: Made, flow: Option<Flow>, length: u64) -> [Part<
 }
 
 // Returns a run of octets that were replaced.
-fn run_parts(run: &Replaced) -> [Part<'_>; 3]
-    ensures { map plain_part result ≡ parts.run_parts (changes.plain_replaced run.now) }
-{
+fn run_parts(run: &Replaced) -> [Part<'_>; 3] {
     [
         shown("at", " at ", Value::Number(run.at as u64)),
         shown("from", " ", Value::Octets(run.from.as_slice())),
@@ -116,9 +91,7 @@ fn run_parts(run: &Replaced) -> [Part<'_>; 3]
 }
 
 // Writes a run of octets that were replaced.
-fn put_run(text: &mut String, json: bool, run: &Replaced) -> Put
-    ensures { OnOk result (string_bytes text.new ≡ string_bytes text.old ++ spec.run_in json (changes.plain_replaced run.now)) }
-{
+fn put_run(text: &mut String, json: bool, run: &Replaced) -> Put {
     if json {
         return put_object(text, &run_parts(run));
     }
@@ -126,10 +99,7 @@ fn put_run(text: &mut String, json: bool, run: &Replaced) -> Put
 }
 
 // Writes runs of octets that were replaced.
-fn put_runs(text: &mut String, json: bool, runs: &[Replaced]) -> Put
-    ensures { OnOk result (string_bytes text.new ≡ string_bytes text.old
-        ++ joined (spec.comma_if json) (spec.run_in json) (map changes.plain_replaced runs.now)) }
-{
+fn put_runs(text: &mut String, json: bool, runs: &[Replaced]) -> Put {
     for (at, run) in runs.iter().enumerate() {
         put_text(text, between(at, comma_where(json)))?;
         put_run(text, json, run)?;
@@ -138,9 +108,7 @@ fn put_runs(text: &mut String, json: bool, runs: &[Replaced]) -> Put
 }
 
 // Writes named values as text, or as members of an object.
-fn put_either(text: &mut String, json: bool, parts: &[Part<'_>]) -> Put
-    ensures { OnOk result (string_bytes text.new ≡ string_bytes text.old ++ spec.parts_in json (map plain_part parts.now)) }
-{
+fn put_either(text: &mut String, json: bool, parts: &[Part<'_>]) -> Put {
     if json {
         return put_members(text, parts);
     }
@@ -148,27 +116,25 @@ fn put_either(text: &mut String, json: bool, parts: &[Part<'_>]) -> Put
 }
 
 // Writes what differs in a field, as text or as the members of an object.
-fn put_field(text: &mut String, json: bool, frame: u32, field: Field, from: &Said, to: &Said) -> Put
-    ensures { OnOk result (string_bytes text.new ≡ string_bytes text.old
-        ++ spec.members_in json (changes.in_field frame field (changes.plain_said from.now) (changes.plain_said to.now))) }
-{
+fn put_field(
+    text: &mut String,
+    json: bool,
+    frame: u32,
+    field: Field,
+    from: &Said,
+    to: &Said,
+) -> Put {
     put_either(text, json, &field_parts(frame, field, from, to))
 }
 
 // Writes what differs in a payload as text.
-fn put_payload_text(text: &mut String, frame: u32, change: &PayloadChange) -> Put
-    ensures { OnOk result (string_bytes text.new ≡ string_bytes text.old
-        ++ words.change_text (changes.in_payload frame (changes.plain_payload change.now))) }
-{
+fn put_payload_text(text: &mut String, frame: u32, change: &PayloadChange) -> Put {
     put_parts(text, &payload_parts(frame, change))?;
     put_runs(text, false, change.replaced.as_slice())
 }
 
 // Writes what differs in a payload as the members of an object.
-fn put_payload_json(text: &mut String, frame: u32, change: &PayloadChange) -> Put
-    ensures { OnOk result (string_bytes text.new ≡ string_bytes text.old
-        ++ json.change_members (changes.in_payload frame (changes.plain_payload change.now))) }
-{
+fn put_payload_json(text: &mut String, frame: u32, change: &PayloadChange) -> Put {
     put_members(text, &payload_parts(frame, change))?;
     put_name(text, true, "replaced")?;
     put_text(text, "[")?;
@@ -177,9 +143,7 @@ fn put_payload_json(text: &mut String, frame: u32, change: &PayloadChange) -> Pu
 }
 
 // Writes a change as text, or as the members of an object.
-fn put_change(text: &mut String, json: bool, change: &Change) -> Put
-    ensures { OnOk result (string_bytes text.new ≡ string_bytes text.old ++ spec.members_in json (changes.plain change.now)) }
-{
+fn put_change(text: &mut String, json: bool, change: &Change) -> Put {
     match change {
         Change::InField {
             frame,
@@ -199,9 +163,7 @@ fn put_change(text: &mut String, json: bool, change: &Change) -> Put
 }
 
 // Returns the number of the changed frame.
-fn frame_of(change: &Change) -> u32
-    ensures { result ≡ parts.frame_of (changes.plain change.now) }
-{
+fn frame_of(change: &Change) -> u32 {
     match change {
         Change::InField { frame, .. } => *frame,
         Change::InPayload { frame, .. } => *frame,
@@ -210,9 +172,7 @@ fn frame_of(change: &Change) -> u32
 }
 
 // Returns the name of what differs.
-fn name_of(change: &Change) -> &'static str
-    ensures { result.now ≡ parts.name_of (changes.plain change.now) }
-{
+fn name_of(change: &Change) -> &'static str {
     match change {
         Change::InField { field, .. } => field.name(),
         Change::InPayload { .. } => "payload",
@@ -221,9 +181,7 @@ fn name_of(change: &Change) -> &'static str
 }
 
 // Writes what precedes a change of `frame` if the change before it is one of the frame `before`.
-fn put_lead(text: &mut String, before: u32, frame: u32) -> Put
-    ensures { OnOk result (string_bytes text.new ≡ string_bytes text.old ++ words.lead_text before frame) }
-{
+fn put_lead(text: &mut String, before: u32, frame: u32) -> Put {
     if before == frame {
         return put_text(text, ", ");
     }
@@ -233,9 +191,7 @@ fn put_lead(text: &mut String, before: u32, frame: u32) -> Put
 }
 
 // Writes changes as text, frame by frame.
-fn put_changes_text(text: &mut String, list: &[Change]) -> Put
-    ensures { OnOk result (string_bytes text.new ≡ string_bytes text.old ++ words.changes_text 0 (map changes.plain list.now)) }
-{
+fn put_changes_text(text: &mut String, list: &[Change]) -> Put {
     let mut before = 0;
     for change in list {
         let frame = frame_of(change);
@@ -247,9 +203,7 @@ fn put_changes_text(text: &mut String, list: &[Change]) -> Put
 }
 
 // Writes a change, on a text line behind its lead.
-fn put_one_change(text: &mut String, format: Format, change: &Change) -> Put
-    ensures { OnOk result (string_bytes text.new ≡ string_bytes text.old ++ spec.change_in format (changes.plain change.now)) }
-{
+fn put_one_change(text: &mut String, format: Format, change: &Change) -> Put {
     match format {
         Format::Text => put_change(text, false, change),
         Format::Json => {
@@ -266,10 +220,7 @@ fn put_one_change(text: &mut String, format: Format, change: &Change) -> Put
 }
 
 // Writes changes, with what separates them.
-fn put_all_changes(text: &mut String, format: Format, list: &[Change]) -> Put
-    ensures { OnOk result (string_bytes text.new ≡ string_bytes text.old
-        ++ joined (spec.separator_of format) (spec.change_in format) (map changes.plain list.now)) }
-{
+fn put_all_changes(text: &mut String, format: Format, list: &[Change]) -> Put {
     for (at, change) in list.iter().enumerate() {
         put_text(text, between(at, separator(format)))?;
         put_one_change(text, format, change)?;
@@ -278,10 +229,7 @@ fn put_all_changes(text: &mut String, format: Format, list: &[Change]) -> Put
 }
 
 // Writes changes as an array or as a cell.
-fn put_listed(text: &mut String, format: Format, list: &[Change]) -> Put
-    ensures { OnOk result (string_bytes text.new ≡ string_bytes text.old
-        ++ spec.listed (codes "changes") spec.change_in format (map changes.plain list.now)) }
-{
+fn put_listed(text: &mut String, format: Format, list: &[Change]) -> Put {
     open_list(text, format, "changes", list.is_empty())?;
     put_all_changes(text, format, list)?;
     close_list(text, format)?;
@@ -289,9 +237,7 @@ fn put_listed(text: &mut String, format: Format, list: &[Change]) -> Put
 }
 
 /// Writes the field of what differs between a record and its frames.
-pub(crate) fn put_changes(text: &mut String, format: Format, list: &[Change]) -> Put
-    ensures { OnOk result (string_bytes text.new ≡ string_bytes text.old ++ spec.field_in format (fields.changes (map changes.plain list.now))) }
-{
+pub(crate) fn put_changes(text: &mut String, format: Format, list: &[Change]) -> Put {
     match format {
         Format::Text => put_changes_text(text, list),
         Format::Json | Format::Table => put_listed(text, format, list),

@@ -1,9 +1,4 @@
 //! The line of an era.
-ghost use Rattle.std.specs.Prelude.{◌≡◌, ◌++◌, map, OnOk, string_bytes};
-ghost use Rattle.std.specs.List.{flat_map};
-ghost use Rattle.view_text.specs.Eras as spec;
-ghost use Rattle.view_text.specs.Plain.{field_in, plain_part, plain_value};
-ghost use Rattle.view_text.specs.Views.{plain_era};
 
 use crate::flow::{destination_of, destination_port, source_of, source_port};
 use crate::list::put_rules;
@@ -17,16 +12,12 @@ use crate::{EraView, Format, Opened};
 const SECOND: u64 = 1_000_000_000;
 
 /// Returns the text before the number of an era.
-pub(crate) fn era_lead(second: bool) -> &'static str
-    ensures { result.now ≡ spec.era_lead second }
-{
+pub(crate) fn era_lead(second: bool) -> &'static str {
     if second { "era second " } else { "era " }
 }
 
 // Returns what began an era.
-fn opened_of(opened: Option<Opened>) -> Value<'static>
-    ensures { plain_value result ≡ spec.opened_of opened }
-{
+fn opened_of(opened: Option<Opened>) -> Value<'static> {
     match opened {
         Some(opened) => of_text(opened_word(opened)),
         None => Value::Absent,
@@ -34,9 +25,7 @@ fn opened_of(opened: Option<Opened>) -> Value<'static>
 }
 
 // Returns what is said of the hosts of an era.
-fn hosts<'a>(view: &EraView<'a>) -> [Part<'a>; 6]
-    ensures { map plain_part result ≡ spec.host_parts (plain_era view.now) }
-{
+fn hosts<'a>(view: &EraView<'a>) -> [Part<'a>; 6] {
     let flow = view.flow;
     [
         hidden("by", of_text(by_word(view.second))),
@@ -49,9 +38,7 @@ fn hosts<'a>(view: &EraView<'a>) -> [Part<'a>; 6]
 }
 
 // Returns the times of an era.
-fn times<'a>(view: &EraView<'a>) -> [Part<'a>; 6]
-    ensures { map plain_part result ≡ spec.time_parts (plain_era view.now) }
-{
+fn times<'a>(view: &EraView<'a>) -> [Part<'a>; 6] {
     let any = view.records != 0;
     let (first, last) = (view.first, view.last);
     [
@@ -71,9 +58,7 @@ fn times<'a>(view: &EraView<'a>) -> [Part<'a>; 6]
 }
 
 // Returns what is counted of an era, and how it ended.
-fn counts<'a>(view: &EraView<'a>) -> [Part<'a>; 4]
-    ensures { map plain_part result ≡ spec.counted_parts (plain_era view.now) }
-{
+fn counts<'a>(view: &EraView<'a>) -> [Part<'a>; 4] {
     [
         shown("records", " records ", Value::Number(view.records)),
         shown("sent", " sent ", Value::Number(view.sent)),
@@ -83,9 +68,7 @@ fn counts<'a>(view: &EraView<'a>) -> [Part<'a>; 4]
 }
 
 /// Writes the fields behind the number of the era.
-pub(crate) fn put_era(text: &mut String, format: Format, view: &EraView<'_>) -> Put
-    ensures { OnOk result (string_bytes text.new ≡ string_bytes text.old ++ flat_map (field_in format) (spec.behind_number (plain_era view.now))) }
-{
+pub(crate) fn put_era(text: &mut String, format: Format, view: &EraView<'_>) -> Put {
     put_fields(text, format, &hosts(view))?;
     put_fields(text, format, &times(view))?;
     put_fields(text, format, &counts(view))?;

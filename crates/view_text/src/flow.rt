@@ -1,38 +1,25 @@
 //! What the headers of a packet say, as values.
-ghost use Rattle.std.specs.Prelude.{◌≡◌};
-ghost use Rattle.view_text.specs.Changes as changes;
-ghost use Rattle.view_text.specs.Changes.{marks_in};
-ghost use Rattle.view_text.specs.Plain.{plain_value};
-ghost use Rattle.view_text.specs.Records as spec;
 
 use crate::part::{Value, Word};
 use frame_view::{Flow, IcmpMarks, Ports, TcpMarks};
 
 // Returns the ports of a flow, where it has them.
-fn ports_in(flow: Option<Flow>) -> Option<Ports>
-    ensures { result ≡ spec.ports_in flow }
-{
+fn ports_in(flow: Option<Flow>) -> Option<Ports> {
     flow?.ports
 }
 
 // Returns the marks of a flow's segment, where there is one.
-fn marks_of(flow: Option<Flow>) -> Option<TcpMarks>
-    ensures { result ≡ marks_in flow }
-{
+fn marks_of(flow: Option<Flow>) -> Option<TcpMarks> {
     flow?.tcp
 }
 
 // Returns the marks of a flow's ICMP message, where there is one.
-fn icmp_in(flow: Option<Flow>) -> Option<IcmpMarks>
-    ensures { result ≡ spec.icmp_in flow }
-{
+fn icmp_in(flow: Option<Flow>) -> Option<IcmpMarks> {
     flow?.icmp
 }
 
 /// Returns the source address.
-pub(crate) fn source_of(flow: Option<Flow>) -> Value<'static>
-    ensures { plain_value result ≡ spec.source_of flow }
-{
+pub(crate) fn source_of(flow: Option<Flow>) -> Value<'static> {
     match flow {
         Some(flow) => Value::Word(Word::Address(flow.src)),
         None => Value::Absent,
@@ -40,9 +27,7 @@ pub(crate) fn source_of(flow: Option<Flow>) -> Value<'static>
 }
 
 /// Returns the destination address.
-pub(crate) fn destination_of(flow: Option<Flow>) -> Value<'static>
-    ensures { plain_value result ≡ spec.destination_of flow }
-{
+pub(crate) fn destination_of(flow: Option<Flow>) -> Value<'static> {
     match flow {
         Some(flow) => Value::Word(Word::Address(flow.dst)),
         None => Value::Absent,
@@ -50,9 +35,7 @@ pub(crate) fn destination_of(flow: Option<Flow>) -> Value<'static>
 }
 
 /// Returns the port that a packet comes from.
-pub(crate) fn source_port(flow: Option<Flow>) -> Value<'static>
-    ensures { plain_value result ≡ spec.source_port flow }
-{
+pub(crate) fn source_port(flow: Option<Flow>) -> Value<'static> {
     match ports_in(flow) {
         Some(ports) => Value::Number(u64::from(ports.src)),
         None => Value::Absent,
@@ -60,9 +43,7 @@ pub(crate) fn source_port(flow: Option<Flow>) -> Value<'static>
 }
 
 /// Returns the port that a packet goes to.
-pub(crate) fn destination_port(flow: Option<Flow>) -> Value<'static>
-    ensures { plain_value result ≡ spec.destination_port flow }
-{
+pub(crate) fn destination_port(flow: Option<Flow>) -> Value<'static> {
     match ports_in(flow) {
         Some(ports) => Value::Number(u64::from(ports.dst)),
         None => Value::Absent,
@@ -70,9 +51,7 @@ pub(crate) fn destination_port(flow: Option<Flow>) -> Value<'static>
 }
 
 /// Returns the protocol.
-pub(crate) fn proto_of(flow: Option<Flow>) -> Value<'static>
-    ensures { plain_value result ≡ changes.proto_of flow }
-{
+pub(crate) fn proto_of(flow: Option<Flow>) -> Value<'static> {
     match flow {
         Some(flow) => Value::Word(Word::Protocol(flow.protocol)),
         None => Value::Absent,
@@ -80,9 +59,7 @@ pub(crate) fn proto_of(flow: Option<Flow>) -> Value<'static>
 }
 
 /// Returns the flags of a segment.
-pub(crate) fn flags_of(flow: Option<Flow>) -> Value<'static>
-    ensures { plain_value result ≡ changes.flags_of (marks_in flow) }
-{
+pub(crate) fn flags_of(flow: Option<Flow>) -> Value<'static> {
     match marks_of(flow) {
         Some(marks) => Value::Word(Word::Flags(u32::from(marks.flags.0))),
         None => Value::Absent,
@@ -90,9 +67,7 @@ pub(crate) fn flags_of(flow: Option<Flow>) -> Value<'static>
 }
 
 /// Returns the sequence number of a segment.
-pub(crate) fn seq_of(flow: Option<Flow>) -> Value<'static>
-    ensures { plain_value result ≡ changes.seq_of (marks_in flow) }
-{
+pub(crate) fn seq_of(flow: Option<Flow>) -> Value<'static> {
     match marks_of(flow) {
         Some(marks) => Value::Number(u64::from(marks.seq)),
         None => Value::Absent,
@@ -100,9 +75,7 @@ pub(crate) fn seq_of(flow: Option<Flow>) -> Value<'static>
 }
 
 /// Returns the acknowledgment of a segment.
-pub(crate) fn ack_of(flow: Option<Flow>) -> Value<'static>
-    ensures { plain_value result ≡ changes.ack_of (marks_in flow) }
-{
+pub(crate) fn ack_of(flow: Option<Flow>) -> Value<'static> {
     match marks_of(flow) {
         Some(marks) => Value::Number(u64::from(marks.ack)),
         None => Value::Absent,
@@ -110,9 +83,7 @@ pub(crate) fn ack_of(flow: Option<Flow>) -> Value<'static>
 }
 
 /// Returns the window in the header of a segment.
-pub(crate) fn window_of(flow: Option<Flow>) -> Value<'static>
-    ensures { plain_value result ≡ spec.window_in (marks_in flow) }
-{
+pub(crate) fn window_of(flow: Option<Flow>) -> Value<'static> {
     match marks_of(flow) {
         Some(marks) => Value::Number(u64::from(marks.window)),
         None => Value::Absent,
@@ -120,9 +91,7 @@ pub(crate) fn window_of(flow: Option<Flow>) -> Value<'static>
 }
 
 /// Returns the type of an ICMP message.
-pub(crate) fn icmp_type_of(flow: Option<Flow>) -> Value<'static>
-    ensures { plain_value result ≡ spec.icmp_type_of flow }
-{
+pub(crate) fn icmp_type_of(flow: Option<Flow>) -> Value<'static> {
     match icmp_in(flow) {
         Some(marks) => Value::Number(u64::from(marks.kind)),
         None => Value::Absent,
@@ -130,9 +99,7 @@ pub(crate) fn icmp_type_of(flow: Option<Flow>) -> Value<'static>
 }
 
 /// Returns the code of an ICMP message.
-pub(crate) fn icmp_code_of(flow: Option<Flow>) -> Value<'static>
-    ensures { plain_value result ≡ spec.icmp_code_of flow }
-{
+pub(crate) fn icmp_code_of(flow: Option<Flow>) -> Value<'static> {
     match icmp_in(flow) {
         Some(marks) => Value::Number(u64::from(marks.code)),
         None => Value::Absent,
@@ -140,9 +107,7 @@ pub(crate) fn icmp_code_of(flow: Option<Flow>) -> Value<'static>
 }
 
 /// Returns the identification of a packet.
-pub(crate) fn id_of(flow: Option<Flow>) -> Value<'static>
-    ensures { plain_value result ≡ spec.id_of flow }
-{
+pub(crate) fn id_of(flow: Option<Flow>) -> Value<'static> {
     match flow {
         Some(flow) => Value::Number(u64::from(flow.identification)),
         None => Value::Absent,
@@ -150,9 +115,7 @@ pub(crate) fn id_of(flow: Option<Flow>) -> Value<'static>
 }
 
 /// Returns the fragment offset of a packet.
-pub(crate) fn offset_of(flow: Option<Flow>) -> Value<'static>
-    ensures { plain_value result ≡ spec.offset_of flow }
-{
+pub(crate) fn offset_of(flow: Option<Flow>) -> Value<'static> {
     match flow {
         Some(flow) => Value::Number(u64::from(flow.offset)),
         None => Value::Absent,
@@ -160,9 +123,7 @@ pub(crate) fn offset_of(flow: Option<Flow>) -> Value<'static>
 }
 
 /// Returns whether more fragments follow a packet.
-pub(crate) fn more_of(flow: Option<Flow>) -> Value<'static>
-    ensures { plain_value result ≡ spec.more_of flow }
-{
+pub(crate) fn more_of(flow: Option<Flow>) -> Value<'static> {
     match flow {
         Some(flow) => Value::Mark(flow.more),
         None => Value::Absent,

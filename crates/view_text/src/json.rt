@@ -1,7 +1,4 @@
 //! Named values as JSON.
-ghost use Rattle.std.specs.Prelude.{◌≡◌, [], ◌∷◌, ◌++◌, map, codes, OnOk, string_bytes};
-ghost use Rattle.view_text.specs.Json as spec;
-ghost use Rattle.view_text.specs.Plain.{comma_if, plain_part, plain_value};
 
 use crate::octets::put_octets_json;
 use crate::part::{Part, Value};
@@ -9,9 +6,7 @@ use crate::pieces::{Put, between, put_number, put_text};
 use crate::word::put_word;
 
 // Writes the numbers of so many frames, behind those before them, as an array.
-fn put_numbers(text: &mut String, before: u64, count: u8) -> Put
-    ensures { OnOk result (string_bytes text.new ≡ string_bytes text.old ++ spec.frames_json before count) }
-{
+fn put_numbers(text: &mut String, before: u64, count: u8) -> Put {
     put_text(text, "[")?;
     for at in 0..count {
         put_text(text, between(usize::from(at), ","))?;
@@ -22,9 +17,7 @@ fn put_numbers(text: &mut String, before: u64, count: u8) -> Put
 
 // Writes a value behind the quote that ends its name, and a colon.
 #[inline(always)]
-fn put_value(text: &mut String, value: Value<'_>) -> Put
-    ensures { OnOk result (string_bytes text.new ≡ string_bytes text.old ++ (codes "\":" ++ spec.scalar_json (plain_value value.entry))) }
-{
+fn put_value(text: &mut String, value: Value<'_>) -> Put {
     match value {
         Value::Absent => put_text(text, "\":null"),
         Value::Number(number) => {
@@ -51,9 +44,7 @@ fn put_value(text: &mut String, value: Value<'_>) -> Put
 
 // Writes the quote before a name; behind a comma if it is not the first.
 #[inline(always)]
-fn put_quote(text: &mut String, comma: bool) -> Put
-    ensures { OnOk result (string_bytes text.new ≡ string_bytes text.old ++ (comma_if comma ++ 34 ∷ [])) }
-{
+fn put_quote(text: &mut String, comma: bool) -> Put {
     if comma {
         return put_text(text, ",\"");
     }
@@ -61,9 +52,7 @@ fn put_quote(text: &mut String, comma: bool) -> Put
 }
 
 /// Writes the name of a member, in quotes, and a colon; behind a comma if it is not the first.
-pub(crate) fn put_name(text: &mut String, comma: bool, name: &str) -> Put
-    ensures { OnOk result (string_bytes text.new ≡ string_bytes text.old ++ (comma_if comma ++ spec.string name.now ++ codes ":")) }
-{
+pub(crate) fn put_name(text: &mut String, comma: bool, name: &str) -> Put {
     put_quote(text, comma)?;
     put_text(text, name)?;
     put_text(text, "\":")
@@ -71,18 +60,14 @@ pub(crate) fn put_name(text: &mut String, comma: bool, name: &str) -> Put
 
 /// Writes a named value as a member; behind a comma if it is not the first.
 #[inline(always)]
-pub(crate) fn put_member(text: &mut String, comma: bool, part: &Part<'_>) -> Put
-    ensures { OnOk result (string_bytes text.new ≡ string_bytes text.old ++ (comma_if comma ++ spec.part_json (plain_part part.now))) }
-{
+pub(crate) fn put_member(text: &mut String, comma: bool, part: &Part<'_>) -> Put {
     put_quote(text, comma)?;
     put_text(text, part.name)?;
     put_value(text, part.value)
 }
 
 /// Writes named values, with a comma between each two.
-pub(crate) fn put_members(text: &mut String, parts: &[Part<'_>]) -> Put
-    ensures { OnOk result (string_bytes text.new ≡ string_bytes text.old ++ spec.members (map plain_part parts.now)) }
-{
+pub(crate) fn put_members(text: &mut String, parts: &[Part<'_>]) -> Put {
     for (at, part) in parts.iter().enumerate() {
         put_member(text, at != 0, part)?;
     }
@@ -90,9 +75,7 @@ pub(crate) fn put_members(text: &mut String, parts: &[Part<'_>]) -> Put
 }
 
 /// Writes an object.
-pub(crate) fn put_object(text: &mut String, parts: &[Part<'_>]) -> Put
-    ensures { OnOk result (string_bytes text.new ≡ string_bytes text.old ++ spec.object (map plain_part parts.now)) }
-{
+pub(crate) fn put_object(text: &mut String, parts: &[Part<'_>]) -> Put {
     put_text(text, "{")?;
     put_members(text, parts)?;
     put_text(text, "}")

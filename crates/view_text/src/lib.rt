@@ -1,10 +1,9 @@
 //! What is said of a record, of an era and of a whole run: a list of named fields, as text, as JSON
 //! or as a row of a table.
 //!
-//! Proved: each function returns exactly the line of its definition in the format, or that memory
-//! could not be allocated. A definition is a list of fields (`Records`, `Eras`, `Runs`) and a
-//! printer of such a list (`Text`, `Json`, `Table`). A time is the RFC 3339 text of the date that
-//! is counted off in the Gregorian calendar. The names in a heading are those of the fields (`laws`).
+//! `ShownLine` is the value of a line; `specs/Lines.antt` has it over plain lists. The printers are
+//! proved safe, and no contract says what they write: that is tested. A time is the RFC 3339 text of
+//! the instant.
 //!
 //! Choices: the flags of a segment that has none set are a dash in each format. Of octets that were
 //! cut off or replaced a text line has the first 64. Words are not escaped in JSON: no word of
@@ -15,7 +14,6 @@ mod change;
 mod eras;
 mod flow;
 mod json;
-pub mod laws;
 pub mod line;
 mod list;
 mod notes;
@@ -35,4 +33,4 @@ pub use line::{
     chosen_line, era_heading, era_line, notes_text, record_heading, record_line, stop_line,
     summary_line,
 };
-pub use view::{Counts, EraCounts, EraView, Format, Opened, RecordView, RuleCount, Sides, Summary};
+pub use view::{Counts, EraCounts, EraView, Format, Opened, RuleCount, ShownLine, Sides, Summary};

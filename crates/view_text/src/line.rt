@@ -1,13 +1,4 @@
 //! The lines of the view.
-ghost use Rattle.std.specs.Prelude.{◌≡◌, IfOk, string_bytes};
-ghost use Rattle.view_text.specs.Eras.{era_fields, era_names};
-ghost use Rattle.view_text.specs.Lines.{line_of};
-ghost use Rattle.view_text.specs.Lines.{notes_text as notes_text_of};
-ghost use Rattle.view_text.specs.Notes.{note_fields};
-ghost use Rattle.view_text.specs.Records.{record_fields, record_names};
-ghost use Rattle.view_text.specs.Runs.{chosen_fields, stop_fields, summary_fields};
-ghost use Rattle.view_text.specs.Table.{heading_of};
-ghost use Rattle.view_text.specs.Views.{plain_era, plain_record, plain_summary};
 
 use crate::eras::{era_lead, put_era};
 use crate::notes::{note_name, put_note};
@@ -16,7 +7,7 @@ use crate::pieces::put_text;
 use crate::print::{begun, end_line, put_fields};
 use crate::records::put_record;
 use crate::runs::put_summary;
-use crate::{EraView, Format, RecordView, Summary};
+use crate::{EraView, Format, ShownLine, Summary};
 use edge_io::NoMemory;
 use run_notes::Note;
 use std::alloc::Global;
@@ -35,20 +26,20 @@ const ERA_HEADING: &str = "era\tby\toutside_ip\toutside_port\tinside_ip\tinside_
     sent\toctets\tend\trules\n";
 
 /// Returns the line of a record.
-pub fn record_line(alloc: Global, format: Format, view: &RecordView<'_>) -> Result<String, NoMemory>
-    ensures { IfOk result (λ line. string_bytes line ≡ line_of format (record_fields (plain_record view.now))) }
-{
-    let first = shown("record", "", Value::Number(view.number));
+pub fn record_line(
+    alloc: Global,
+    format: Format,
+    shown_line: &ShownLine,
+) -> Result<String, NoMemory> {
+    let first = shown("record", "", Value::Number(shown_line.number));
     let mut line = begun(alloc, format, "record", &first)?;
-    put_record(&mut line, format, view)?;
+    put_record(&mut line, format, shown_line)?;
     end_line(&mut line, format)?;
     Ok(line)
 }
 
 /// Returns the line of an era.
-pub fn era_line(alloc: Global, format: Format, view: &EraView<'_>) -> Result<String, NoMemory>
-    ensures { IfOk result (λ line. string_bytes line ≡ line_of format (era_fields (plain_era view.now))) }
-{
+pub fn era_line(alloc: Global, format: Format, view: &EraView<'_>) -> Result<String, NoMemory> {
     let first = shown(
         "era",
         era_lead(view.second),
@@ -65,9 +56,7 @@ pub fn summary_line(
     alloc: Global,
     format: Format,
     summary: &Summary<'_>,
-) -> Result<String, NoMemory>
-    ensures { IfOk result (λ line. string_bytes line ≡ line_of format (summary_fields (plain_summary summary.now))) }
-{
+) -> Result<String, NoMemory> {
     let first = shown("records", "records ", Value::Number(summary.records));
     let mut line = begun(alloc, format, "summary", &first)?;
     put_summary(&mut line, format, summary)?;
@@ -76,9 +65,7 @@ pub fn summary_line(
 }
 
 /// Returns the line of how many records were chosen.
-pub fn chosen_line(alloc: Global, format: Format, records: u64) -> Result<String, NoMemory>
-    ensures { IfOk result (λ line. string_bytes line ≡ line_of format (chosen_fields records)) }
-{
+pub fn chosen_line(alloc: Global, format: Format, records: u64) -> Result<String, NoMemory> {
     let first = shown("records", "chosen ", Value::Number(records));
     let mut line = begun(alloc, format, "chosen", &first)?;
     end_line(&mut line, format)?;
@@ -86,9 +73,7 @@ pub fn chosen_line(alloc: Global, format: Format, records: u64) -> Result<String
 }
 
 /// Returns the lines of notes, in their order.
-pub fn notes_text(alloc: Global, format: Format, notes: &[Note]) -> Result<String, NoMemory>
-    ensures { IfOk result (λ text. string_bytes text ≡ notes_text_of format notes.now) }
-{
+pub fn notes_text(alloc: Global, format: Format, notes: &[Note]) -> Result<String, NoMemory> {
     let mut text = String::new(alloc);
     for note in notes {
         let line = note_line(alloc, format, *note)?;
@@ -98,9 +83,7 @@ pub fn notes_text(alloc: Global, format: Format, notes: &[Note]) -> Result<Strin
 }
 
 // Returns the line of a note.
-fn note_line(alloc: Global, format: Format, note: Note) -> Result<String, NoMemory>
-    ensures { IfOk result (λ line. string_bytes line ≡ line_of format (note_fields note)) }
-{
+fn note_line(alloc: Global, format: Format, note: Note) -> Result<String, NoMemory> {
     let first = shown("note", "note ", of_text(note_name(note)));
     let mut line = begun(alloc, format, "note", &first)?;
     put_note(&mut line, format, note)?;
@@ -115,9 +98,7 @@ pub fn stop_line(
     format: Format,
     status: u8,
     reason: &str,
-) -> Result<String, NoMemory>
-    ensures { IfOk result (λ line. string_bytes line ≡ line_of format (stop_fields status reason.now)) }
-{
+) -> Result<String, NoMemory> {
     let first = hidden("status", Value::Number(u64::from(status)));
     let mut line = begun(alloc, format, "stop", &first)?;
     put_fields(&mut line, format, &[shown("reason", "", of_text(reason))])?;
@@ -126,15 +107,11 @@ pub fn stop_line(
 }
 
 /// Returns the heading of a table of records.
-pub fn record_heading(alloc: Global) -> Result<String, NoMemory>
-    ensures { IfOk result (λ line. string_bytes line ≡ heading_of record_names) }
-{
+pub fn record_heading(alloc: Global) -> Result<String, NoMemory> {
     Ok(String::from_str(alloc, RECORD_HEADING)?)
 }
 
 /// Returns the heading of a table of eras.
-pub fn era_heading(alloc: Global) -> Result<String, NoMemory>
-    ensures { IfOk result (λ line. string_bytes line ≡ heading_of era_names) }
-{
+pub fn era_heading(alloc: Global) -> Result<String, NoMemory> {
     Ok(String::from_str(alloc, ERA_HEADING)?)
 }

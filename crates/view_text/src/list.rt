@@ -1,10 +1,4 @@
 //! Rules and ended eras in each format.
-ghost use Rattle.std.specs.Prelude.{◌≡◌, ◌++◌, OnOk, string_bytes};
-ghost use Rattle.rule_book.specs.Text.{ended_word};
-ghost use Rattle.view_text.specs.Fields as fields;
-ghost use Rattle.view_text.specs.Json.{joined};
-ghost use Rattle.view_text.specs.Plain as spec;
-ghost use Rattle.view_text.specs.Text as words;
 
 use crate::Format;
 use crate::json::put_object;
@@ -15,9 +9,7 @@ use crate::word::reason_word;
 use rule_book::{Ended, Rule};
 
 // Writes a rule as text, and what it says where that is wanted.
-fn put_rule_text(text: &mut String, explained: bool, rule: Rule) -> Put
-    ensures { OnOk result (string_bytes text.new ≡ string_bytes text.old ++ words.rule_text explained rule) }
-{
+fn put_rule_text(text: &mut String, explained: bool, rule: Rule) -> Put {
     put_text(text, " ")?;
     put_text(text, rule.name())?;
     if !explained {
@@ -27,18 +19,14 @@ fn put_rule_text(text: &mut String, explained: bool, rule: Rule) -> Put
 }
 
 /// Writes what a rule says, in parentheses.
-pub(crate) fn put_sentence(text: &mut String, rule: Rule) -> Put
-    ensures { OnOk result (string_bytes text.new ≡ string_bytes text.old ++ words.sentence_text rule) }
-{
+pub(crate) fn put_sentence(text: &mut String, rule: Rule) -> Put {
     put_text(text, " (")?;
     put_text(text, rule.sentence())?;
     put_text(text, ")")
 }
 
 // Writes a rule.
-fn put_rule(text: &mut String, format: Format, explained: bool, rule: Rule) -> Put
-    ensures { OnOk result (string_bytes text.new ≡ string_bytes text.old ++ spec.rule_in format explained rule) }
-{
+fn put_rule(text: &mut String, format: Format, explained: bool, rule: Rule) -> Put {
     match format {
         Format::Text => put_rule_text(text, explained, rule),
         Format::Json => put_string(text, rule.name()),
@@ -47,10 +35,7 @@ fn put_rule(text: &mut String, format: Format, explained: bool, rule: Rule) -> P
 }
 
 // Writes rules, with what separates them.
-fn put_all_rules(text: &mut String, format: Format, explained: bool, list: &[Rule]) -> Put
-    ensures { OnOk result (string_bytes text.new ≡ string_bytes text.old
-        ++ joined (spec.separator_of format) (spec.rule_in format explained) list.now) }
-{
+fn put_all_rules(text: &mut String, format: Format, explained: bool, list: &[Rule]) -> Put {
     for (at, rule) in list.iter().enumerate() {
         put_text(text, between(at, separator(format)))?;
         put_rule(text, format, explained, *rule)?;
@@ -59,18 +44,14 @@ fn put_all_rules(text: &mut String, format: Format, explained: bool, list: &[Rul
 }
 
 /// Writes the field of the rules that are named, with or without what they say.
-pub(crate) fn put_rules(text: &mut String, format: Format, explained: bool, list: &[Rule]) -> Put
-    ensures { OnOk result (string_bytes text.new ≡ string_bytes text.old ++ spec.field_in format (fields.rules explained list.now)) }
-{
+pub(crate) fn put_rules(text: &mut String, format: Format, explained: bool, list: &[Rule]) -> Put {
     open_list(text, format, "rules", list.is_empty())?;
     put_all_rules(text, format, explained, list)?;
     close_list(text, format)
 }
 
 // Writes an era that ended as text.
-fn put_ended_text(text: &mut String, ended: Ended) -> Put
-    ensures { OnOk result (string_bytes text.new ≡ string_bytes text.old ++ words.ended_text ended) }
-{
+fn put_ended_text(text: &mut String, ended: Ended) -> Put {
     put_text(text, " ends era ")?;
     put_number(text, u64::from(ended.era))?;
     put_text(text, " ")?;
@@ -79,9 +60,7 @@ fn put_ended_text(text: &mut String, ended: Ended) -> Put
 }
 
 // Writes a number behind a lead, where it is there.
-fn put_led(text: &mut String, lead: &str, number: Option<u64>) -> Put
-    ensures { OnOk result (string_bytes text.new ≡ string_bytes text.old ++ spec.led_number lead.now number) }
-{
+fn put_led(text: &mut String, lead: &str, number: Option<u64>) -> Put {
     let Some(number) = number else {
         return Ok(());
     };
@@ -90,9 +69,7 @@ fn put_led(text: &mut String, lead: &str, number: Option<u64>) -> Put
 }
 
 // Writes an era that ended as a word of a cell.
-fn put_ended_word(text: &mut String, ended: Ended) -> Put
-    ensures { OnOk result (string_bytes text.new ≡ string_bytes text.old ++ ended_word ended) }
-{
+fn put_ended_word(text: &mut String, ended: Ended) -> Put {
     put_number(text, u64::from(ended.era))?;
     put_text(text, ":")?;
     put_text(text, reason_word(ended.reason))?;
@@ -100,9 +77,7 @@ fn put_ended_word(text: &mut String, ended: Ended) -> Put
 }
 
 // Writes an era that ended as an object.
-fn put_ended_json(text: &mut String, ended: Ended) -> Put
-    ensures { OnOk result (string_bytes text.new ≡ string_bytes text.old ++ spec.ended_in Format.Json ended) }
-{
+fn put_ended_json(text: &mut String, ended: Ended) -> Put {
     put_object(
         text,
         &[
@@ -114,9 +89,7 @@ fn put_ended_json(text: &mut String, ended: Ended) -> Put
 }
 
 // Writes an era that ended.
-fn put_one_ended(text: &mut String, format: Format, ended: Ended) -> Put
-    ensures { OnOk result (string_bytes text.new ≡ string_bytes text.old ++ spec.ended_in format ended) }
-{
+fn put_one_ended(text: &mut String, format: Format, ended: Ended) -> Put {
     match format {
         Format::Text => put_ended_text(text, ended),
         Format::Json => put_ended_json(text, ended),
@@ -125,9 +98,7 @@ fn put_one_ended(text: &mut String, format: Format, ended: Ended) -> Put
 }
 
 // Writes eras that ended, with what separates them.
-fn put_all_ended(text: &mut String, format: Format, list: &[Ended]) -> Put
-    ensures { OnOk result (string_bytes text.new ≡ string_bytes text.old ++ joined (spec.separator_of format) (spec.ended_in format) list.now) }
-{
+fn put_all_ended(text: &mut String, format: Format, list: &[Ended]) -> Put {
     for (at, ended) in list.iter().enumerate() {
         put_text(text, between(at, separator(format)))?;
         put_one_ended(text, format, *ended)?;
@@ -136,9 +107,7 @@ fn put_all_ended(text: &mut String, format: Format, list: &[Ended]) -> Put
 }
 
 /// Writes the field of the eras that ended.
-pub(crate) fn put_ended(text: &mut String, format: Format, list: &[Ended]) -> Put
-    ensures { OnOk result (string_bytes text.new ≡ string_bytes text.old ++ spec.field_in format (fields.ended list.now)) }
-{
+pub(crate) fn put_ended(text: &mut String, format: Format, list: &[Ended]) -> Put {
     open_list(text, format, "ended", list.is_empty())?;
     put_all_ended(text, format, list)?;
     close_list(text, format)?;

@@ -1,9 +1,4 @@
 //! The lines of notes.
-ghost use Rattle.std.specs.Prelude.{◌≡◌, ◌++◌, map, OnOk, string_bytes};
-ghost use Rattle.std.specs.List.{flat_map};
-ghost use Rattle.view_text.specs.Fields.{one};
-ghost use Rattle.view_text.specs.Notes as spec;
-ghost use Rattle.view_text.specs.Plain.{field_in, plain_part};
 
 use crate::Format;
 use crate::part::{Part, Value, of_text, shown};
@@ -12,9 +7,7 @@ use crate::print::put_fields;
 use run_notes::{BySide, Full, Note};
 
 /// Returns the name of a note.
-pub(crate) fn note_name(note: Note) -> &'static str
-    ensures { result.now ≡ spec.note_name note }
-{
+pub(crate) fn note_name(note: Note) -> &'static str {
     match note {
         Note::Lost { .. } => "lost",
         Note::Order { .. } => "order",
@@ -33,9 +26,7 @@ pub(crate) fn note_name(note: Note) -> &'static str
 }
 
 // Returns a count by side.
-fn side_parts(count: BySide) -> [Part<'static>; 3]
-    ensures { map plain_part result ≡ spec.side_parts count }
-{
+fn side_parts(count: BySide) -> [Part<'static>; 3] {
     [
         shown("in", " in ", Value::Number(count.inward)),
         shown("out", " out ", Value::Number(count.outward)),
@@ -44,18 +35,14 @@ fn side_parts(count: BySide) -> [Part<'static>; 3]
 }
 
 // Returns two counts of octets, by side.
-fn lost_parts(inward: u64, outward: u64) -> [Part<'static>; 2]
-    ensures { map plain_part result ≡ spec.lost_parts inward outward }
-{
+fn lost_parts(inward: u64, outward: u64) -> [Part<'static>; 2] {
     [
         shown("in", " in ", Value::Number(inward)),
         shown("out", " out ", Value::Number(outward)),
     ]
 }
 
-fn half_parts(eras: u64, octets: u64) -> [Part<'static>; 2]
-    ensures { map plain_part result ≡ spec.half_parts eras octets }
-{
+fn half_parts(eras: u64, octets: u64) -> [Part<'static>; 2] {
     [
         shown("eras", " eras ", Value::Number(eras)),
         shown("octets", " octets ", Value::Number(octets)),
@@ -63,9 +50,7 @@ fn half_parts(eras: u64, octets: u64) -> [Part<'static>; 2]
 }
 
 // Returns records by the option whose table was full.
-fn full_parts(full: Full) -> [Part<'static>; 5]
-    ensures { map plain_part result ≡ spec.full_parts full }
-{
+fn full_parts(full: Full) -> [Part<'static>; 5] {
     [
         shown("flows", " flows ", Value::Number(full.flows)),
         shown("cells", " cells ", Value::Number(full.cells)),
@@ -76,9 +61,7 @@ fn full_parts(full: Full) -> [Part<'static>; 5]
 }
 
 // Writes the counts of a note.
-fn put_counts(text: &mut String, format: Format, note: Note) -> Put
-    ensures { OnOk result (string_bytes text.new ≡ string_bytes text.old ++ flat_map (field_in format) (map one (spec.note_parts note))) }
-{
+fn put_counts(text: &mut String, format: Format, note: Note) -> Put {
     match note {
         Note::Lost { inward, outward } => put_fields(text, format, &lost_parts(inward, outward)),
         Note::Order { gaps } => {
@@ -108,9 +91,7 @@ fn put_counts(text: &mut String, format: Format, note: Note) -> Put
 
 // Returns what to do where checksums are left to the network card: those of outbound packets are
 // computed by norm.
-fn card_advice(records: BySide) -> &'static str
-    ensures { result.now ≡ spec.card_advice records }
-{
+fn card_advice(records: BySide) -> &'static str {
     if records.inward == 0 && records.neither == 0 {
         "outbound checksums are left to the network card: run norm with --offload"
     } else {
@@ -121,7 +102,6 @@ fn card_advice(records: BySide) -> &'static str
 // Returns what to do.
 #[rattlefmt::skip]
 fn advice(note: Note) -> &'static str
-    ensures { result.now ≡ spec.advice note }
 {
     match note {
         Note::Lost { .. } => "IN lacks packets: capture again with tcpdump -B 65536, and see how many packets were dropped by kernel",
@@ -141,9 +121,7 @@ fn advice(note: Note) -> &'static str
 }
 
 /// Writes the fields of a note behind its name.
-pub(crate) fn put_note(text: &mut String, format: Format, note: Note) -> Put
-    ensures { OnOk result (string_bytes text.new ≡ string_bytes text.old ++ flat_map (field_in format) (spec.behind_name note)) }
-{
+pub(crate) fn put_note(text: &mut String, format: Format, note: Note) -> Put {
     put_counts(text, format, note)?;
     put_fields(
         text,

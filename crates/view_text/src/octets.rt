@@ -1,8 +1,4 @@
 //! Octets in quotes.
-ghost use Rattle.std.specs.Prelude.{◌≡◌, ◌++◌, take, OnOk, string_bytes};
-ghost use Rattle.view_text.specs.Json as spec_json;
-ghost use Rattle.view_text.specs.Plain.{front_in, octet_in};
-ghost use Rattle.view_text.specs.Words as spec;
 
 use crate::pieces::{Put, put_char, put_number, put_text};
 use crate::word::{put_hex, put_octet};
@@ -11,9 +7,7 @@ use crate::word::{put_hex, put_octet};
 const MOST: usize = 64;
 
 // Writes an octet as it stands between quotes; in JSON each `"` and `\` of that has another `\`.
-fn put_quoted(text: &mut String, json: bool, octet: u8) -> Put
-    ensures { OnOk result (string_bytes text.new ≡ string_bytes text.old ++ octet_in json octet) }
-{
+fn put_quoted(text: &mut String, json: bool, octet: u8) -> Put {
     match (octet, json) {
         (b'"', false) => put_text(text, "\\\""),
         (b'"', true) => put_text(text, "\\\\\\\""),
@@ -32,16 +26,12 @@ fn put_quoted(text: &mut String, json: bool, octet: u8) -> Put
 }
 
 // Returns the first octets.
-fn first_octets(octets: &[u8]) -> &[u8]
-    ensures { result.now ≡ take spec.most_quoted octets.now }
-{
+fn first_octets(octets: &[u8]) -> &[u8] {
     &octets[..octets.len().min(MOST)]
 }
 
 // Writes the first octets as they stand between quotes.
-fn put_front(text: &mut String, json: bool, octets: &[u8]) -> Put
-    ensures { OnOk result (string_bytes text.new ≡ string_bytes text.old ++ front_in json octets.now) }
-{
+fn put_front(text: &mut String, json: bool, octets: &[u8]) -> Put {
     for octet in first_octets(octets) {
         put_quoted(text, json, *octet)?;
     }
@@ -49,9 +39,7 @@ fn put_front(text: &mut String, json: bool, octets: &[u8]) -> Put
 }
 
 // Writes how many octets are left out behind the quotes.
-fn put_rest(text: &mut String, count: usize) -> Put
-    ensures { OnOk result (string_bytes text.new ≡ string_bytes text.old ++ spec.rest_text count) }
-{
+fn put_rest(text: &mut String, count: usize) -> Put {
     if count <= MOST {
         return Ok(());
     }
@@ -61,9 +49,7 @@ fn put_rest(text: &mut String, count: usize) -> Put
 }
 
 /// Writes octets in quotes.
-pub(crate) fn put_octets(text: &mut String, octets: &[u8]) -> Put
-    ensures { OnOk result (string_bytes text.new ≡ string_bytes text.old ++ spec.octets_text octets.now) }
-{
+pub(crate) fn put_octets(text: &mut String, octets: &[u8]) -> Put {
     put_text(text, "\"")?;
     put_front(text, false, octets)?;
     put_text(text, "\"")?;
@@ -71,9 +57,7 @@ pub(crate) fn put_octets(text: &mut String, octets: &[u8]) -> Put
 }
 
 /// Writes octets as a JSON object.
-pub(crate) fn put_octets_json(text: &mut String, octets: &[u8]) -> Put
-    ensures { OnOk result (string_bytes text.new ≡ string_bytes text.old ++ spec_json.octets_json octets.now) }
-{
+pub(crate) fn put_octets_json(text: &mut String, octets: &[u8]) -> Put {
     put_text(text, "{\"length\":")?;
     put_number(text, octets.len() as u64)?;
     put_text(text, ",\"hex\":\"")?;

@@ -1,7 +1,4 @@
 //! Named values.
-ghost use Rattle.std.specs.Prelude.{◌≡◌};
-ghost use Rattle.view_text.specs.Fields as spec;
-ghost use Rattle.view_text.specs.Plain.{plain_part, plain_value};
 
 use wire_base::Addr;
 
@@ -58,9 +55,7 @@ pub(crate) struct Part<'a> {
 
 /// Returns a value that is on a text line where it is there.
 #[inline(always)]
-pub(crate) fn shown<'a>(name: &'static str, lead: &'static str, value: Value<'a>) -> Part<'a>
-    ensures { plain_part result ≡ spec.shown name.entry.now lead.entry.now (plain_value value.entry) }
-{
+pub(crate) fn shown<'a>(name: &'static str, lead: &'static str, value: Value<'a>) -> Part<'a> {
     Part {
         name,
         lead: Some(lead),
@@ -71,9 +66,7 @@ pub(crate) fn shown<'a>(name: &'static str, lead: &'static str, value: Value<'a>
 
 /// Returns a value that is always on a text line.
 #[inline(always)]
-pub(crate) fn dashed<'a>(name: &'static str, lead: &'static str, value: Value<'a>) -> Part<'a>
-    ensures { plain_part result ≡ spec.dashed name.entry.now lead.entry.now (plain_value value.entry) }
-{
+pub(crate) fn dashed<'a>(name: &'static str, lead: &'static str, value: Value<'a>) -> Part<'a> {
     Part {
         name,
         lead: Some(lead),
@@ -84,9 +77,7 @@ pub(crate) fn dashed<'a>(name: &'static str, lead: &'static str, value: Value<'a
 
 /// Returns a value that is never on a text line.
 #[inline(always)]
-pub(crate) fn hidden<'a>(name: &'static str, value: Value<'a>) -> Part<'a>
-    ensures { plain_part result ≡ spec.hidden name.entry.now (plain_value value.entry) }
-{
+pub(crate) fn hidden<'a>(name: &'static str, value: Value<'a>) -> Part<'a> {
     Part {
         name,
         lead: None,
@@ -96,9 +87,7 @@ pub(crate) fn hidden<'a>(name: &'static str, value: Value<'a>) -> Part<'a>
 }
 
 /// Returns a number that may be there.
-pub(crate) fn number_if(number: Option<u64>) -> Value<'static>
-    ensures { plain_value result ≡ spec.number_if number }
-{
+pub(crate) fn number_if(number: Option<u64>) -> Value<'static> {
     match number {
         Some(number) => Value::Number(number),
         None => Value::Absent,
@@ -107,15 +96,11 @@ pub(crate) fn number_if(number: Option<u64>) -> Value<'static>
 
 /// Returns a word.
 #[inline(always)]
-pub(crate) fn of_text(text: &str) -> Value<'_>
-    ensures { plain_value result ≡ spec.word text.now }
-{
+pub(crate) fn of_text(text: &str) -> Value<'_> {
     Value::Word(Word::Text(text))
 }
 
 /// Returns a value where a test holds.
-pub(crate) fn only_if(test: bool, value: Value<'_>) -> Value<'_>
-    ensures { plain_value result ≡ spec.only_if test (plain_value value.entry) }
-{
+pub(crate) fn only_if(test: bool, value: Value<'_>) -> Value<'_> {
     if test { value } else { Value::Absent }
 }

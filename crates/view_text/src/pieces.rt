@@ -1,7 +1,5 @@
 //! What lines are put together from.
-ghost use Rattle.std.specs.Prelude.{◌≡◌, ◌<◌, [], ◌∷◌, ◌++◌, OnOk, decimal, string_bytes};
-ghost use Rattle.view_text.specs.Json as json;
-ghost use Rattle.view_text.specs.Plain.{between as between_of, comma_if};
+ghost use Rattle.std.specs.Prelude.{◌<◌};
 
 use edge_io::NoMemory;
 use itoa::Buffer;
@@ -11,9 +9,7 @@ pub(crate) type Put = Result<(), NoMemory>;
 
 /// Writes a text.
 #[inline]
-pub(crate) fn put_text(text: &mut String, piece: &str) -> Put
-    ensures { OnOk result (string_bytes text.new ≡ string_bytes text.old ++ piece.now) }
-{
+pub(crate) fn put_text(text: &mut String, piece: &str) -> Put {
     text.push_str(piece)?;
     Ok(())
 }
@@ -21,39 +17,30 @@ pub(crate) fn put_text(text: &mut String, piece: &str) -> Put
 /// Writes a character below 128.
 pub(crate) fn put_char(text: &mut String, code: u8) -> Put
     requires { code < 128 }
-    ensures { OnOk result (string_bytes text.new ≡ string_bytes text.old ++ code ∷ []) }
 {
     text.push(char::from(code))?;
     Ok(())
 }
 
 /// Writes a number.
-pub(crate) fn put_number(text: &mut String, number: u64) -> Put
-    ensures { OnOk result (string_bytes text.new ≡ string_bytes text.old ++ decimal number) }
-{
+pub(crate) fn put_number(text: &mut String, number: u64) -> Put {
     let mut buffer = Buffer::new();
     put_text(text, buffer.format(number))
 }
 
 /// Writes a text in quotes.
-pub(crate) fn put_string(text: &mut String, piece: &str) -> Put
-    ensures { OnOk result (string_bytes text.new ≡ string_bytes text.old ++ json.string piece.now) }
-{
+pub(crate) fn put_string(text: &mut String, piece: &str) -> Put {
     put_text(text, "\"")?;
     put_text(text, piece)?;
     put_text(text, "\"")
 }
 
 /// Returns a comma, where it is wanted.
-pub(crate) fn comma_where(wanted: bool) -> &'static str
-    ensures { result.now ≡ comma_if wanted }
-{
+pub(crate) fn comma_where(wanted: bool) -> &'static str {
     if wanted { "," } else { "" }
 }
 
 /// Returns what stands before an element of a list: the separator before all but the first.
-pub(crate) fn between(at: usize, separator: &'static str) -> &'static str
-    ensures { result.now ≡ between_of at separator.entry.now }
-{
+pub(crate) fn between(at: usize, separator: &'static str) -> &'static str {
     if at == 0 { "" } else { separator }
 }

@@ -1,9 +1,4 @@
 //! Fields in each format.
-ghost use Rattle.std.specs.Prelude.{◌≡◌, ◌++◌, false, map, IfOk, OnOk, string_bytes};
-ghost use Rattle.std.specs.List.{flat_map};
-ghost use Rattle.view_text.specs.Fields.{group, one};
-ghost use Rattle.view_text.specs.Plain as spec;
-ghost use Rattle.view_text.specs.Plain.{plain_part};
 
 use crate::json::{put_member, put_name, put_object};
 use crate::part::Part;
@@ -22,9 +17,7 @@ pub(crate) fn begun(
     format: Format,
     event: &str,
     first: &Part<'_>,
-) -> Result<String, NoMemory>
-    ensures { IfOk result (λ line. string_bytes line ≡ spec.begun format event.now (one (plain_part first.now))) }
-{
+) -> Result<String, NoMemory> {
     let mut line = String::with_capacity(alloc, ROOM)?;
     match format {
         Format::Text => text::put_part(&mut line, first)?,
@@ -40,9 +33,7 @@ pub(crate) fn begun(
 }
 
 // Writes a field behind the first.
-fn put_field(text: &mut String, format: Format, part: &Part<'_>) -> Put
-    ensures { OnOk result (string_bytes text.new ≡ string_bytes text.old ++ spec.field_in format (one (plain_part part.now))) }
-{
+fn put_field(text: &mut String, format: Format, part: &Part<'_>) -> Put {
     match format {
         Format::Text => text::put_part(text, part),
         Format::Json => put_member(text, true, part),
@@ -54,9 +45,7 @@ fn put_field(text: &mut String, format: Format, part: &Part<'_>) -> Put
 }
 
 /// Writes fields behind the first.
-pub(crate) fn put_fields(text: &mut String, format: Format, parts: &[Part<'_>]) -> Put
-    ensures { OnOk result (string_bytes text.new ≡ string_bytes text.old ++ flat_map (spec.field_in format) (map one (map plain_part parts.now))) }
-{
+pub(crate) fn put_fields(text: &mut String, format: Format, parts: &[Part<'_>]) -> Put {
     for part in parts {
         put_field(text, format, part)?;
     }
@@ -64,9 +53,7 @@ pub(crate) fn put_fields(text: &mut String, format: Format, parts: &[Part<'_>]) 
 }
 
 // Writes named values as text.
-pub(crate) fn put_parts(text: &mut String, parts: &[Part<'_>]) -> Put
-    ensures { OnOk result (string_bytes text.new ≡ string_bytes text.old ++ spec.parts_in false (map plain_part parts.now)) }
-{
+pub(crate) fn put_parts(text: &mut String, parts: &[Part<'_>]) -> Put {
     for part in parts {
         text::put_part(text, part)?;
     }
@@ -80,10 +67,7 @@ pub(crate) fn put_group(
     name: &str,
     lead: &str,
     parts: &[Part<'_>],
-) -> Put
-    ensures { OnOk result (string_bytes text.new ≡ string_bytes text.old
-        ++ spec.field_in format (group name.now lead.now (map plain_part parts.now))) }
-{
+) -> Put {
     match format {
         Format::Text => {
             put_text(text, lead)?;
@@ -98,9 +82,7 @@ pub(crate) fn put_group(
 }
 
 /// Writes what stands before the elements of a field, of which there are none or some.
-pub(crate) fn open_list(text: &mut String, format: Format, name: &str, empty: bool) -> Put
-    ensures { OnOk result (string_bytes text.new ≡ string_bytes text.old ++ spec.opening format name.now empty) }
-{
+pub(crate) fn open_list(text: &mut String, format: Format, name: &str, empty: bool) -> Put {
     match format {
         Format::Text => Ok(()),
         Format::Json => {
@@ -113,9 +95,7 @@ pub(crate) fn open_list(text: &mut String, format: Format, name: &str, empty: bo
 }
 
 /// Returns what separates two elements of a field.
-pub(crate) fn separator(format: Format) -> &'static str
-    ensures { result.now ≡ spec.separator_of format }
-{
+pub(crate) fn separator(format: Format) -> &'static str {
     match format {
         Format::Text => "",
         Format::Json | Format::Table => ",",
@@ -123,9 +103,7 @@ pub(crate) fn separator(format: Format) -> &'static str
 }
 
 /// Writes what stands behind the elements of a field.
-pub(crate) fn close_list(text: &mut String, format: Format) -> Put
-    ensures { OnOk result (string_bytes text.new ≡ string_bytes text.old ++ spec.closing format) }
-{
+pub(crate) fn close_list(text: &mut String, format: Format) -> Put {
     match format {
         Format::Json => put_text(text, "]"),
         Format::Text | Format::Table => Ok(()),
@@ -133,9 +111,7 @@ pub(crate) fn close_list(text: &mut String, format: Format) -> Put
 }
 
 /// Writes the end of a line.
-pub(crate) fn end_line(text: &mut String, format: Format) -> Put
-    ensures { OnOk result (string_bytes text.new ≡ string_bytes text.old ++ spec.ending format) }
-{
+pub(crate) fn end_line(text: &mut String, format: Format) -> Put {
     match format {
         Format::Json => put_text(text, "}\n"),
         Format::Text | Format::Table => put_text(text, "\n"),

@@ -1,9 +1,4 @@
 //! The line of a record.
-ghost use Rattle.std.specs.Prelude.{◌≡◌, ◌++◌, map, OnOk, string_bytes};
-ghost use Rattle.std.specs.List.{flat_map, list_any};
-ghost use Rattle.view_text.specs.Plain.{field_in, plain_part, plain_value};
-ghost use Rattle.view_text.specs.Records as spec;
-ghost use Rattle.view_text.specs.Views.{plain_record};
 
 use crate::change::put_changes;
 use crate::flow::{
@@ -15,7 +10,7 @@ use crate::part::{Part, Value, Word, dashed, hidden, number_if, of_text, only_if
 use crate::pieces::Put;
 use crate::print::put_fields;
 use crate::word::{by_word, side_word, verdict_word};
-use crate::{Format, RecordView};
+use crate::{Format, ShownLine};
 use frame_view::Flow;
 use rule_book::Rule;
 use wire_base::Side;
@@ -27,9 +22,7 @@ const ARP: u16 = 0x0806;
 const SECOND: u64 = 1_000_000_000;
 
 // Returns the number of the line in the report.
-fn own_part(second: bool, number: u64, own: u32) -> Part<'static>
-    ensures { plain_part result ≡ spec.own_part second number own }
-{
+fn own_part(second: bool, number: u64, own: u32) -> Part<'static> {
     if second {
         shown("number", "/", Value::Number(u64::from(own)))
     } else {
@@ -38,9 +31,7 @@ fn own_part(second: bool, number: u64, own: u32) -> Part<'static>
 }
 
 // Returns which way the packet went.
-fn side_of(side: Option<Side>) -> Value<'static>
-    ensures { plain_value result ≡ spec.side_of side }
-{
+fn side_of(side: Option<Side>) -> Value<'static> {
     match side {
         Some(side) => of_text(side_word(side)),
         None => Value::Absent,
@@ -48,9 +39,7 @@ fn side_of(side: Option<Side>) -> Value<'static>
 }
 
 // Returns the text before an EtherType on a text line.
-fn ether_lead(ethertype: Option<u16>) -> &'static str
-    ensures { result.now ≡ spec.ether_lead ethertype }
-{
+fn ether_lead(ethertype: Option<u16>) -> &'static str {
     match ethertype {
         None | Some(ARP) => " ",
         Some(_) => " type ",
@@ -58,9 +47,7 @@ fn ether_lead(ethertype: Option<u16>) -> &'static str
 }
 
 // Returns the EtherType.
-fn ether_of(ethertype: Option<u16>) -> Value<'static>
-    ensures { plain_value result ≡ spec.ether_of ethertype }
-{
+fn ether_of(ethertype: Option<u16>) -> Value<'static> {
     match ethertype {
         None => Value::Absent,
         Some(ARP) => of_text("arp"),
@@ -69,9 +56,7 @@ fn ether_of(ethertype: Option<u16>) -> Value<'static>
 }
 
 // Returns the protocol.
-fn proto_part(ethertype: Option<u16>, flow: Option<Flow>) -> Part<'static>
-    ensures { plain_part result ≡ spec.proto_part ethertype flow }
-{
+fn proto_part(ethertype: Option<u16>, flow: Option<Flow>) -> Part<'static> {
     Part {
         name: "proto",
         lead: Some(" "),
@@ -81,37 +66,27 @@ fn proto_part(ethertype: Option<u16>, flow: Option<Flow>) -> Part<'static>
 }
 
 // Returns whether T_WINDOW is among rules.
-fn names_window(rules: &[Rule]) -> bool
-    ensures { result ≡ list_any spec.is_window_rule rules.now }
-{
+fn names_window(rules: &[Rule]) -> bool {
     rules.iter().any(|rule| rule.number() == 55)
 }
 
 // Returns whether a rule is one on fragments.
-fn is_fragment_rule(rule: Rule) -> bool
-    ensures { result ≡ spec.is_fragment_rule rule }
-{
+fn is_fragment_rule(rule: Rule) -> bool {
     rule.name().as_bytes().first() == Some(&b'F')
 }
 
 // Returns whether a rule on fragments is among rules.
-fn names_fragments(rules: &[Rule]) -> bool
-    ensures { result ≡ list_any spec.is_fragment_rule rules.now }
-{
+fn names_fragments(rules: &[Rule]) -> bool {
     rules.iter().any(|rule| is_fragment_rule(*rule))
 }
 
 // Returns the packet of a line that names a rule on fragments.
-fn fragment_in(rules: &[Rule], flow: Option<Flow>) -> Option<Flow>
-    ensures { result ≡ spec.fragment_in rules.now flow }
-{
+fn fragment_in(rules: &[Rule], flow: Option<Flow>) -> Option<Flow> {
     if names_fragments(rules) { flow } else { None }
 }
 
 // Returns the number of frames.
-fn frames_part(given: bool, count: u8) -> Part<'static>
-    ensures { plain_part result ≡ spec.frames_part given count }
-{
+fn frames_part(given: bool, count: u8) -> Part<'static> {
     if given {
         hidden("frames", Value::Number(u64::from(count)))
     } else {
@@ -120,9 +95,7 @@ fn frames_part(given: bool, count: u8) -> Part<'static>
 }
 
 // Returns the fields before those of the packet.
-fn front<'a>(view: &RecordView<'a>) -> [Part<'a>; 6]
-    ensures { map plain_part result ≡ spec.front_parts (plain_record view.now) }
-{
+fn front(view: &ShownLine) -> [Part<'_>; 6] {
     [
         hidden("by", of_text(by_word(view.second))),
         own_part(view.second, view.number, view.own),
@@ -134,9 +107,7 @@ fn front<'a>(view: &RecordView<'a>) -> [Part<'a>; 6]
 }
 
 // Returns the fields of the packet.
-fn packet<'a>(view: &RecordView<'a>) -> [Part<'a>; 12]
-    ensures { map plain_part result ≡ spec.packet_parts (plain_record view.now) }
-{
+fn packet(view: &ShownLine) -> [Part<'_>; 12] {
     let flow = view.flow;
     [
         dashed("src_ip", " ", source_of(flow)),
@@ -163,11 +134,9 @@ fn packet<'a>(view: &RecordView<'a>) -> [Part<'a>; 12]
 }
 
 // Returns the fields of a fragment, the length, and the verdict.
-fn judged<'a>(view: &RecordView<'a>) -> [Part<'a>; 7]
-    ensures { map plain_part result ≡ spec.judged_parts (plain_record view.now) }
-{
+fn judged(view: &ShownLine) -> [Part<'_>; 7] {
     let fragment = fragment_in(view.entry.rules.as_slice(), view.flow);
-    let entry = view.entry;
+    let entry = &view.entry;
     [
         shown("id", " id ", id_of(fragment)),
         shown("offset", " offset ", offset_of(fragment)),
@@ -184,9 +153,7 @@ fn judged<'a>(view: &RecordView<'a>) -> [Part<'a>; 7]
 }
 
 // Returns the fields of the frames.
-fn written<'a>(view: &RecordView<'a>) -> [Part<'a>; 3]
-    ensures { map plain_part result ≡ spec.written_parts (plain_record view.now) }
-{
+fn written(view: &ShownLine) -> [Part<'_>; 3] {
     let (count, before) = (view.entry.packets, view.before);
     let out = !view.given && count != 0;
     [
@@ -205,15 +172,13 @@ fn written<'a>(view: &RecordView<'a>) -> [Part<'a>; 3]
 }
 
 /// Writes the fields behind the number of the record.
-pub(crate) fn put_record(text: &mut String, format: Format, view: &RecordView<'_>) -> Put
-    ensures { OnOk result (string_bytes text.new ≡ string_bytes text.old ++ flat_map (field_in format) (spec.behind_number (plain_record view.now))) }
-{
+pub(crate) fn put_record(text: &mut String, format: Format, view: &ShownLine) -> Put {
     put_fields(text, format, &front(view))?;
     put_fields(text, format, &packet(view))?;
     put_fields(text, format, &judged(view))?;
     put_ended(text, format, view.entry.ended.as_slice())?;
     put_rules(text, format, true, view.entry.rules.as_slice())?;
     put_fields(text, format, &written(view))?;
-    put_changes(text, format, view.changes)?;
+    put_changes(text, format, view.changes.as_slice())?;
     Ok(())
 }

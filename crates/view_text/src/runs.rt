@@ -1,12 +1,4 @@
 //! The lines of a whole run.
-ghost use Rattle.std.specs.Prelude.{◌≡◌, ◌++◌, map, option_map, OnOk, string_bytes};
-ghost use Rattle.std.specs.List.{flat_map};
-ghost use Rattle.view_text.specs.Fields as fields;
-ghost use Rattle.view_text.specs.Json.{joined};
-ghost use Rattle.view_text.specs.Plain.{comma_if, field_in, number_in, plain_part, rule_count_in};
-ghost use Rattle.view_text.specs.Runs as spec;
-ghost use Rattle.view_text.specs.Text as words;
-ghost use Rattle.view_text.specs.Views.{plain_summary};
 
 use crate::json::put_object;
 use crate::list::put_sentence;
@@ -17,9 +9,7 @@ use crate::{Counts, EraCounts, Format, RuleCount, Sides, Summary};
 use run_notes::NumberCount;
 
 // Returns how many lines have each verdict.
-fn count_parts(counts: &Counts) -> [Part<'static>; 4]
-    ensures { map plain_part result ≡ spec.count_parts counts.now }
-{
+fn count_parts(counts: &Counts) -> [Part<'static>; 4] {
     [
         shown("pass", "pass ", Value::Number(counts.pass)),
         shown("fix", " fix ", Value::Number(counts.fix)),
@@ -29,9 +19,7 @@ fn count_parts(counts: &Counts) -> [Part<'static>; 4]
 }
 
 // Returns how many eras there are.
-fn era_parts(eras: &EraCounts) -> [Part<'static>; 9]
-    ensures { map plain_part result ≡ spec.era_parts eras.now }
-{
+fn era_parts(eras: &EraCounts) -> [Part<'static>; 9] {
     [
         shown("all", "", Value::Number(eras.all)),
         shown("live", " live ", Value::Number(eras.live)),
@@ -46,9 +34,7 @@ fn era_parts(eras: &EraCounts) -> [Part<'static>; 9]
 }
 
 // Returns how many lines name a rule, by side.
-fn rule_count_parts(count: RuleCount) -> [Part<'static>; 4]
-    ensures { map plain_part result ≡ spec.rule_count_parts count }
-{
+fn rule_count_parts(count: RuleCount) -> [Part<'static>; 4] {
     [
         hidden("rule", of_text(count.rule.name())),
         hidden("in", Value::Number(count.inward)),
@@ -58,9 +44,7 @@ fn rule_count_parts(count: RuleCount) -> [Part<'static>; 4]
 }
 
 // Returns how many lines name a rule.
-fn all_sides(count: RuleCount) -> u64
-    ensures { result ≡ spec.all_sides count }
-{
+fn all_sides(count: RuleCount) -> u64 {
     count
         .inward
         .saturating_add(count.outward)
@@ -68,9 +52,7 @@ fn all_sides(count: RuleCount) -> u64
 }
 
 // Writes how many lines name a rule as text.
-fn put_rule_count_text(text: &mut String, count: RuleCount) -> Put
-    ensures { OnOk result (string_bytes text.new ≡ string_bytes text.old ++ words.rule_count_text count) }
-{
+fn put_rule_count_text(text: &mut String, count: RuleCount) -> Put {
     put_text(text, "\nrule ")?;
     put_text(text, count.rule.name())?;
     put_text(text, " ")?;
@@ -79,9 +61,7 @@ fn put_rule_count_text(text: &mut String, count: RuleCount) -> Put
 }
 
 // Writes how many lines name each rule.
-fn put_all_counts(text: &mut String, json: bool, list: &[RuleCount]) -> Put
-    ensures { OnOk result (string_bytes text.new ≡ string_bytes text.old ++ joined (comma_if json) (rule_count_in json) list.now) }
-{
+fn put_all_counts(text: &mut String, json: bool, list: &[RuleCount]) -> Put {
     for (at, count) in list.iter().enumerate() {
         put_text(text, between(at, comma_where(json)))?;
         put_rule_count(text, json, *count)?;
@@ -90,9 +70,7 @@ fn put_all_counts(text: &mut String, json: bool, list: &[RuleCount]) -> Put
 }
 
 // Writes how many lines name a rule.
-fn put_rule_count(text: &mut String, json: bool, count: RuleCount) -> Put
-    ensures { OnOk result (string_bytes text.new ≡ string_bytes text.old ++ rule_count_in json count) }
-{
+fn put_rule_count(text: &mut String, json: bool, count: RuleCount) -> Put {
     if json {
         return put_object(text, &rule_count_parts(count));
     }
@@ -100,9 +78,7 @@ fn put_rule_count(text: &mut String, json: bool, count: RuleCount) -> Put
 }
 
 // Writes the field of how many lines name each rule.
-fn put_rule_counts(text: &mut String, format: Format, list: &[RuleCount]) -> Put
-    ensures { OnOk result (string_bytes text.new ≡ string_bytes text.old ++ field_in format (fields.rule_counts list.now)) }
-{
+fn put_rule_counts(text: &mut String, format: Format, list: &[RuleCount]) -> Put {
     if format == Format::Table {
         return put_text(text, "\t-");
     }
@@ -112,9 +88,7 @@ fn put_rule_counts(text: &mut String, format: Format, list: &[RuleCount]) -> Put
 }
 
 // Returns how many records have a type or a protocol that is not judged.
-fn number_parts(kind: Numbered, number: NumberCount) -> [Part<'static>; 2]
-    ensures { map plain_part result ≡ spec.number_parts kind number }
-{
+fn number_parts(kind: Numbered, number: NumberCount) -> [Part<'static>; 2] {
     let first = match kind {
         Numbered::Types => shown("type", "\ntype ", Value::Word(Word::Hex16(number.number))),
         Numbered::Protocols => shown(
@@ -127,9 +101,7 @@ fn number_parts(kind: Numbered, number: NumberCount) -> [Part<'static>; 2]
 }
 
 // Writes how many records have a type or a protocol.
-fn put_number_count(text: &mut String, json: bool, kind: Numbered, number: NumberCount) -> Put
-    ensures { OnOk result (string_bytes text.new ≡ string_bytes text.old ++ number_in json kind number) }
-{
+fn put_number_count(text: &mut String, json: bool, kind: Numbered, number: NumberCount) -> Put {
     if json {
         return put_object(text, &number_parts(kind, number));
     }
@@ -137,9 +109,7 @@ fn put_number_count(text: &mut String, json: bool, kind: Numbered, number: Numbe
 }
 
 // Writes how many records have each type or protocol.
-fn put_all_numbers(text: &mut String, json: bool, kind: Numbered, list: &[NumberCount]) -> Put
-    ensures { OnOk result (string_bytes text.new ≡ string_bytes text.old ++ joined (comma_if json) (number_in json kind) list.now) }
-{
+fn put_all_numbers(text: &mut String, json: bool, kind: Numbered, list: &[NumberCount]) -> Put {
     for (at, number) in list.iter().enumerate() {
         put_text(text, between(at, comma_where(json)))?;
         put_number_count(text, json, kind, *number)?;
@@ -148,9 +118,7 @@ fn put_all_numbers(text: &mut String, json: bool, kind: Numbered, list: &[Number
 }
 
 // Returns the name of the field.
-fn numbers_name(kind: Numbered) -> &'static str
-    ensures { result.now ≡ spec.numbers_name kind }
-{
+fn numbers_name(kind: Numbered) -> &'static str {
     match kind {
         Numbered::Types => "types",
         Numbered::Protocols => "protocols",
@@ -158,9 +126,7 @@ fn numbers_name(kind: Numbered) -> &'static str
 }
 
 // Writes the field of how many records have each type or protocol.
-fn put_numbers(text: &mut String, format: Format, kind: Numbered, list: &[NumberCount]) -> Put
-    ensures { OnOk result (string_bytes text.new ≡ string_bytes text.old ++ field_in format (fields.numbers kind list.now)) }
-{
+fn put_numbers(text: &mut String, format: Format, kind: Numbered, list: &[NumberCount]) -> Put {
     if format == Format::Table {
         return put_text(text, "\t-");
     }
@@ -170,9 +136,7 @@ fn put_numbers(text: &mut String, format: Format, kind: Numbered, list: &[Number
 }
 
 // Returns the text before the number of such fragments on a text line, where there are some.
-fn unfinished_lead(count: u64) -> Option<&'static str>
-    ensures { option_map (λ lead. lead.now) result ≡ spec.unfinished_lead count }
-{
+fn unfinished_lead(count: u64) -> Option<&'static str> {
     if count == 0 {
         None
     } else {
@@ -181,9 +145,7 @@ fn unfinished_lead(count: u64) -> Option<&'static str>
 }
 
 // Returns the number of fragments whose datagram was never complete.
-fn unfinished_part(count: u64) -> Part<'static>
-    ensures { plain_part result ≡ spec.unfinished_part count }
-{
+fn unfinished_part(count: u64) -> Part<'static> {
     Part {
         name: "unfinished",
         lead: unfinished_lead(count),
@@ -193,9 +155,7 @@ fn unfinished_part(count: u64) -> Part<'static>
 }
 
 // Returns the number of frames, and of fragments whose datagram was never complete.
-fn frame_parts(frames: u64, unfinished: u64) -> [Part<'static>; 2]
-    ensures { map plain_part result ≡ spec.frame_parts frames unfinished }
-{
+fn frame_parts(frames: u64, unfinished: u64) -> [Part<'static>; 2] {
     [
         shown("frames", "\nframes ", Value::Number(frames)),
         unfinished_part(unfinished),
@@ -203,10 +163,7 @@ fn frame_parts(frames: u64, unfinished: u64) -> [Part<'static>; 2]
 }
 
 // Writes these, and what was not judged.
-fn put_frames(text: &mut String, format: Format, summary: &Summary<'_>) -> Put
-    ensures { OnOk result (string_bytes text.new ≡ string_bytes text.old
-        ++ flat_map (field_in format) (spec.frame_fields (plain_summary summary.now))) }
-{
+fn put_frames(text: &mut String, format: Format, summary: &Summary<'_>) -> Put {
     put_fields(
         text,
         format,
@@ -217,9 +174,7 @@ fn put_frames(text: &mut String, format: Format, summary: &Summary<'_>) -> Put
 }
 
 // Returns that there are no lines of a second engine.
-fn no_second() -> [Part<'static>; 3]
-    ensures { map plain_part result ≡ spec.no_second }
-{
+fn no_second() -> [Part<'static>; 3] {
     [
         hidden("second_in", Value::Absent),
         hidden("second_out", Value::Absent),
@@ -228,17 +183,12 @@ fn no_second() -> [Part<'static>; 3]
 }
 
 // Writes the field of how many lines have each verdict.
-fn put_counts(text: &mut String, format: Format, name: &str, lead: &str, counts: &Counts) -> Put
-    ensures { OnOk result (string_bytes text.new ≡ string_bytes text.old
-        ++ field_in format (fields.group name.now lead.now (spec.count_parts counts.now))) }
-{
+fn put_counts(text: &mut String, format: Format, name: &str, lead: &str, counts: &Counts) -> Put {
     put_group(text, format, name, lead, &count_parts(counts))
 }
 
 // Writes the fields of the lines of the second engine.
-fn put_second_sides(text: &mut String, format: Format, sides: &Sides) -> Put
-    ensures { OnOk result (string_bytes text.new ≡ string_bytes text.old ++ flat_map (field_in format) (spec.second_sides sides.now)) }
-{
+fn put_second_sides(text: &mut String, format: Format, sides: &Sides) -> Put {
     put_counts(text, format, "second_in", "\nsecond in ", &sides.inward)?;
     put_counts(text, format, "second_out", "\nsecond out ", &sides.outward)?;
     put_counts(
@@ -252,9 +202,7 @@ fn put_second_sides(text: &mut String, format: Format, sides: &Sides) -> Put
 }
 
 // Writes the fields of the lines of the second engine, where there is one.
-fn put_second(text: &mut String, format: Format, second: Option<Sides>) -> Put
-    ensures { OnOk result (string_bytes text.new ≡ string_bytes text.old ++ flat_map (field_in format) (spec.second_fields second)) }
-{
+fn put_second(text: &mut String, format: Format, second: Option<Sides>) -> Put {
     match second {
         Some(sides) => put_second_sides(text, format, &sides),
         None => put_fields(text, format, &no_second()),
@@ -262,19 +210,14 @@ fn put_second(text: &mut String, format: Format, second: Option<Sides>) -> Put
 }
 
 // Writes the fields of the lines of the first engine.
-fn put_first(text: &mut String, format: Format, sides: &Sides) -> Put
-    ensures { OnOk result (string_bytes text.new ≡ string_bytes text.old ++ flat_map (field_in format) (spec.first_fields sides.now)) }
-{
+fn put_first(text: &mut String, format: Format, sides: &Sides) -> Put {
     put_counts(text, format, "in", "\nin ", &sides.inward)?;
     put_counts(text, format, "out", "\nout ", &sides.outward)?;
     put_counts(text, format, "neither", "\n- ", &sides.neither)
 }
 
 /// Writes the fields behind the number of records.
-pub(crate) fn put_summary(text: &mut String, format: Format, summary: &Summary<'_>) -> Put
-    ensures { OnOk result (string_bytes text.new ≡ string_bytes text.old
-        ++ flat_map (field_in format) (spec.behind_records (plain_summary summary.now))) }
-{
+pub(crate) fn put_summary(text: &mut String, format: Format, summary: &Summary<'_>) -> Put {
     put_first(text, format, &summary.first)?;
     put_second(text, format, summary.second)?;
     put_frames(text, format, summary)?;

@@ -1,7 +1,4 @@
 //! Named values as text.
-ghost use Rattle.std.specs.Prelude.{◌≡◌, ◌++◌, OnOk, string_bytes};
-ghost use Rattle.view_text.specs.Plain.{plain_part, plain_value};
-ghost use Rattle.view_text.specs.Text as spec;
 
 use crate::octets::put_octets;
 use crate::part::{Part, Value};
@@ -9,9 +6,7 @@ use crate::pieces::{Put, put_number, put_text};
 use crate::word::put_word;
 
 // Writes the numbers of so many frames, behind those before them: one, or the first and the last.
-pub(crate) fn put_frames(text: &mut String, before: u64, count: u8) -> Put
-    ensures { OnOk result (string_bytes text.new ≡ string_bytes text.old ++ spec.frames_text before count) }
-{
+pub(crate) fn put_frames(text: &mut String, before: u64, count: u8) -> Put {
     put_number(text, before.saturating_add(1))?;
     if count == 1 {
         return Ok(());
@@ -21,9 +16,7 @@ pub(crate) fn put_frames(text: &mut String, before: u64, count: u8) -> Put
 }
 
 // Writes a value.
-fn put_value(text: &mut String, value: Value<'_>) -> Put
-    ensures { OnOk result (string_bytes text.new ≡ string_bytes text.old ++ spec.scalar_text (plain_value value.entry)) }
-{
+fn put_value(text: &mut String, value: Value<'_>) -> Put {
     match value {
         Value::Absent => put_text(text, "-"),
         Value::Number(number) => put_number(text, number),
@@ -40,9 +33,7 @@ fn put_value(text: &mut String, value: Value<'_>) -> Put
 }
 
 // Returns whether a value is on the line.
-fn is_shown(dash: bool, value: Value<'_>) -> bool
-    ensures { result ≡ spec.is_shown dash (plain_value value.entry) }
-{
+fn is_shown(dash: bool, value: Value<'_>) -> bool {
     match value {
         Value::Absent => dash,
         Value::Mark(set) => set || dash,
@@ -51,9 +42,7 @@ fn is_shown(dash: bool, value: Value<'_>) -> bool
 }
 
 /// Writes a named value behind its lead, where it is on the line.
-pub(crate) fn put_part(text: &mut String, part: &Part<'_>) -> Put
-    ensures { OnOk result (string_bytes text.new ≡ string_bytes text.old ++ spec.part_text (plain_part part.now)) }
-{
+pub(crate) fn put_part(text: &mut String, part: &Part<'_>) -> Put {
     let Some(lead) = part.lead else {
         return Ok(());
     };

@@ -14,9 +14,9 @@ pub enum Format {
     Table,
 }
 
-/// A line of the report, with its record.
-#[derive(Clone, Copy, Debug)]
-pub struct RecordView<'a> {
+/// A line of the report, with its record and what norm changed.
+#[derive(Debug, Drop)]
+pub struct ShownLine {
     /// The number of the record, from 1.
     pub number: u64,
     /// The line is one of the second engine.
@@ -32,13 +32,14 @@ pub struct RecordView<'a> {
     pub ethertype: Option<u16>,
     /// The number of octets of the payload.
     pub length: u64,
-    pub entry: &'a Entry,
+    /// Side, verdict, number of frames, rules, and the eras that it belongs to, began and ended.
+    pub entry: Entry,
     /// The line is one of the first engine of two: its frames went to the second.
     pub given: bool,
     /// The number of frames in OUT before those of this line. Not used where `given`.
     pub before: u64,
     /// What differs between the record and its frames, frame by frame.
-    pub changes: &'a [Change],
+    pub changes: Vec<Change>,
 }
 
 /// What began an era, as the network's outside and inside see it.

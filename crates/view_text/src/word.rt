@@ -1,8 +1,5 @@
 //! The texts of single values.
-ghost use Rattle.std.specs.Prelude.{◌≡◌, ◌<◌, [], ◌∷◌, ◌++◌, OnOk, string_bytes};
-ghost use Rattle.rule_book.specs.Text as words;
-ghost use Rattle.view_text.specs.Plain.{word_text};
-ghost use Rattle.view_text.specs.Words as spec;
+ghost use Rattle.std.specs.Prelude.{◌<◌};
 
 use crate::Opened;
 use crate::part::Word;
@@ -13,9 +10,7 @@ use rule_book::{Reason, Verdict};
 use wire_base::{Addr, Side, protocol};
 
 /// Writes a word.
-pub(crate) fn put_word(text: &mut String, word: Word<'_>) -> Put
-    ensures { OnOk result (string_bytes text.new ≡ string_bytes text.old ++ word_text word.entry) }
-{
+pub(crate) fn put_word(text: &mut String, word: Word<'_>) -> Put {
     match word {
         Word::Text(word) => put_text(text, word),
         Word::Address(address) => put_address(text, address),
@@ -28,9 +23,7 @@ pub(crate) fn put_word(text: &mut String, word: Word<'_>) -> Put
 }
 
 // Writes an address: four numbers with dots between them.
-fn put_address(text: &mut String, address: Addr) -> Put
-    ensures { OnOk result (string_bytes text.new ≡ string_bytes text.old ++ spec.dotted address.0) }
-{
+fn put_address(text: &mut String, address: Addr) -> Put {
     let number = u64::from(address.0);
     put_number(text, number / 0x100_0000)?;
     put_text(text, ".")?;
@@ -42,9 +35,7 @@ fn put_address(text: &mut String, address: Addr) -> Put
 }
 
 // Writes the letters of the flags that are set, `-` for none.
-fn put_flags(text: &mut String, flags: u32) -> Put
-    ensures { OnOk result (string_bytes text.new ≡ string_bytes text.old ++ spec.flags_text flags) }
-{
+fn put_flags(text: &mut String, flags: u32) -> Put {
     if flags == 0 {
         return put_text(text, "-");
     }
@@ -55,15 +46,12 @@ fn put_flags(text: &mut String, flags: u32) -> Put
 // The letter of a flag where it is set.
 fn letter(flags: u32, weight: u32, name: &'static str) -> &'static str
     requires { 0 < weight }
-    ensures { result.now ≡ spec.letter weight name.now flags }
 {
     if flags / weight % 2 == 1 { name } else { "" }
 }
 
 // Writes the letters of SYN, FIN, RST and PSH where they are set.
-fn put_low_letters(text: &mut String, flags: u32) -> Put
-    ensures { OnOk result (string_bytes text.new ≡ string_bytes text.old ++ spec.low_letters flags) }
-{
+fn put_low_letters(text: &mut String, flags: u32) -> Put {
     put_text(text, letter(flags, 2, "S"))?;
     put_text(text, letter(flags, 1, "F"))?;
     put_text(text, letter(flags, 4, "R"))?;
@@ -71,9 +59,7 @@ fn put_low_letters(text: &mut String, flags: u32) -> Put
 }
 
 // Writes the letters of ACK, URG, ECE and CWR where they are set.
-fn put_high_letters(text: &mut String, flags: u32) -> Put
-    ensures { OnOk result (string_bytes text.new ≡ string_bytes text.old ++ spec.high_letters flags) }
-{
+fn put_high_letters(text: &mut String, flags: u32) -> Put {
     put_text(text, letter(flags, 16, "A"))?;
     put_text(text, letter(flags, 32, "U"))?;
     put_text(text, letter(flags, 64, "E"))?;
@@ -81,9 +67,7 @@ fn put_high_letters(text: &mut String, flags: u32) -> Put
 }
 
 // Writes the name of a protocol, or its number.
-fn put_protocol(text: &mut String, number: u8) -> Put
-    ensures { OnOk result (string_bytes text.new ≡ string_bytes text.old ++ spec.protocol_text number) }
-{
+fn put_protocol(text: &mut String, number: u8) -> Put {
     match number {
         protocol::TCP => put_text(text, "tcp"),
         protocol::UDP => put_text(text, "udp"),
@@ -95,7 +79,6 @@ fn put_protocol(text: &mut String, number: u8) -> Put
 // Writes a hexadecimal digit.
 fn put_digit(text: &mut String, digit: u8) -> Put
     requires { digit < 16 }
-    ensures { OnOk result (string_bytes text.new ≡ string_bytes text.old ++ spec.hex_digit digit ∷ []) }
 {
     if digit < 10 {
         return put_char(text, b'0' + digit);
@@ -104,17 +87,13 @@ fn put_digit(text: &mut String, digit: u8) -> Put
 }
 
 /// Writes an octet as two hexadecimal digits.
-pub(crate) fn put_octet(text: &mut String, octet: u8) -> Put
-    ensures { OnOk result (string_bytes text.new ≡ string_bytes text.old ++ spec.octet_hex octet) }
-{
+pub(crate) fn put_octet(text: &mut String, octet: u8) -> Put {
     put_digit(text, octet / 16)?;
     put_digit(text, octet % 16)
 }
 
 /// Writes octets in hexadecimal digits.
-pub(crate) fn put_hex(text: &mut String, octets: &[u8]) -> Put
-    ensures { OnOk result (string_bytes text.new ≡ string_bytes text.old ++ spec.hex_text octets.now) }
-{
+pub(crate) fn put_hex(text: &mut String, octets: &[u8]) -> Put {
     for octet in octets {
         put_octet(text, *octet)?;
     }
@@ -122,18 +101,14 @@ pub(crate) fn put_hex(text: &mut String, octets: &[u8]) -> Put
 }
 
 // Writes a number below 2^16 with four hexadecimal digits.
-fn put_hex16(text: &mut String, number: u32) -> Put
-    ensures { OnOk result (string_bytes text.new ≡ string_bytes text.old ++ spec.hex16_text number) }
-{
+fn put_hex16(text: &mut String, number: u32) -> Put {
     put_text(text, "0x")?;
     put_octet(text, (number / 256 % 256) as u8)?;
     put_octet(text, (number % 256) as u8)
 }
 
 /// Returns the word for a side.
-pub(crate) fn side_word(side: Side) -> &'static str
-    ensures { result.now ≡ words.side_word (Some side) }
-{
+pub(crate) fn side_word(side: Side) -> &'static str {
     match side {
         Side::Inward => "in",
         Side::Outward => "out",
@@ -141,9 +116,7 @@ pub(crate) fn side_word(side: Side) -> &'static str
 }
 
 /// Returns the word for a verdict.
-pub(crate) fn verdict_word(verdict: Verdict) -> &'static str
-    ensures { result.now ≡ words.verdict_word verdict }
-{
+pub(crate) fn verdict_word(verdict: Verdict) -> &'static str {
     match verdict {
         Verdict::Pass => "pass",
         Verdict::Fix => "fix",
@@ -153,16 +126,12 @@ pub(crate) fn verdict_word(verdict: Verdict) -> &'static str
 }
 
 /// Returns the word for the engine that judged.
-pub(crate) fn by_word(second: bool) -> &'static str
-    ensures { result.now ≡ spec.by_word second }
-{
+pub(crate) fn by_word(second: bool) -> &'static str {
     if second { "second" } else { "first" }
 }
 
 /// Returns the word for what began an era.
-pub(crate) fn opened_word(opened: Opened) -> &'static str
-    ensures { result.now ≡ spec.opened_word opened }
-{
+pub(crate) fn opened_word(opened: Opened) -> &'static str {
     match opened {
         Opened::In => "in",
         Opened::Out => "out",
@@ -171,9 +140,7 @@ pub(crate) fn opened_word(opened: Opened) -> &'static str
 }
 
 /// Returns the word for the reason why an era ended.
-pub(crate) fn reason_word(reason: Reason) -> &'static str
-    ensures { result.now ≡ words.reason_word reason }
-{
+pub(crate) fn reason_word(reason: Reason) -> &'static str {
     match reason {
         Reason::Reset => "reset",
         Reason::Evicted => "evicted",
@@ -183,9 +150,7 @@ pub(crate) fn reason_word(reason: Reason) -> &'static str
 }
 
 /// Returns the word for how an era ended.
-pub(crate) fn end_word(end: Option<Reason>) -> &'static str
-    ensures { result.now ≡ spec.end_word end }
-{
+pub(crate) fn end_word(end: Option<Reason>) -> &'static str {
     match end {
         None => "live",
         Some(reason) => reason_word(reason),
@@ -193,9 +158,7 @@ pub(crate) fn end_word(end: Option<Reason>) -> &'static str
 }
 
 /// Returns the word for a frame that norm made itself.
-pub(crate) fn made_word(kind: Made) -> &'static str
-    ensures { result.now ≡ spec.made_word kind }
-{
+pub(crate) fn made_word(kind: Made) -> &'static str {
     match kind {
         Made::Probe => "probe",
         Made::Datagram => "datagram",

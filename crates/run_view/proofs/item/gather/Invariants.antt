@@ -9,7 +9,6 @@ use Rattle.run_view.proofs.item.gather.Given as goal
 abbrev pub invariant-loop-number : goal.invariant-loop-number
 invariant-loop-number g l = record {
   ready : MayRead l.frames;
-  wants : l.gathered.wants ≡ l.fn.gathered.wants;
   count : l.frames.count ≡ l.fn.frames.count + l.number;
   kept : g.O.Source.fault_count l.output ≡ g.O.Source.fault_count l.fn.output;
   read : (all : Option (List ℕ)) (head : Head) (older : List Packet) → OutputAt l.fn.frames.reader head all (g.O.Source.left l.fn.output) older

@@ -1,3 +1,0 @@
-mod Unruled
-mod Numbers
-mod Tables

@@ -1,9 +1,0 @@
-pub mod Lines
-pub mod Sums
-pub mod Kinds
-pub mod Twins
-pub mod Streams
-pub mod Tuples
-pub mod Fragments
-pub mod Counts
-pub mod Notes

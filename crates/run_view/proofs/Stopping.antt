@@ -1,0 +1,131 @@
+-- What a stop says, from what another function's stop says.
+use Rattle.std.proofs.Common.{◌≡◌, ◌⊎◌, ◌≤◌, ℕ, ◌==◌, ◌||◌, Bool, true, false, List, Some, inl, inr, refl, sym, ap, subst, ◌∙◌, arith}
+use Rattle.edge_io.specs.Faults.{Rose}
+use Rattle.capture_input.specs.declared.fault.InputFault.{InputFault}
+use Rattle.capture_input.specs.declared.fault.InputFault.TheVariants as faults
+use Rattle.run_view.specs.declared.form.Form.{Form}
+use Rattle.run_view.specs.declared.stop.Stop.{Stop}
+use Rattle.run_view.specs.declared.stop.Stop.TheVariants as stops
+use Rattle.run_view.specs.Runs.{AreNoRest, FaultCounts, Moment, SourceRose, Sources, faults_of, sources_at}
+use Rattle.run_view.specs.Stops.{FilesStop, Meaning, RestStop, Says, fault_status, status_of}
+use Rattle.run_view.specs.Viewed.{Cause, IsToItsEnd, Stopped, Tells}
+use Rattle.run_view.specs.Words.{asked_in}
+
+pub rose_within : (a b c d : ℕ) → a ≤ b → c ≤ d → Rose b c → Rose a d
+rose_within a b c d ab cd rose = omega arith
+
+-- what each part of it implies
+pub says_more : {A B C D E F K L M N O P : Type 0} → (A → K) → (B → L) → (C → M) → (D → N) → (E → O) → (F → P) → (stop : Stop)
+    → Says A B C D E F stop → Says K L M N O P stop
+says_more {A} {B} {C} {D} {E} {F} {K} {L} {M} {N} {O} {P} a b c d e f stop says = record { is = by stop says.is } where
+  by : (stop : Stop) → Meaning A B C D E F stop → Meaning K L M N O P stop
+  by stops.Words is = a is
+  by (stops.Record n) is = b is
+  by (stops.Frame n) is = b is
+  by (stops.Report n) is = b is
+  by (stops.Input fault offset) is = (is.0, c is.1)
+  by (stops.Output fault offset) is = (is.0, d is.1)
+  by stops.Unread is = e is
+  by stops.Unwritten is = f is
+  by stops.Memory is = tt
+
+-- the same of a view by another name of its form, where no count rose before
+pub rest_more : (form other : Form) (s : Sources) (first now wide : FaultCounts) (stop : Stop) → form ≡ other → first ≡ wide
+    → RestStop form s first now stop → RestStop other s wide now stop
+rest_more form other s first now wide stop same kept =
+    says_more (λ x. x) (λ none. subst (λ f. AreNoRest f s) same none) (λ x. x) (λ x. x) (subst (λ (c : FaultCounts). SourceRose c now) kept)
+    (subst (λ (c : FaultCounts). Rose c.out now.out) kept) stop
+
+-- ---- the status
+
+-- a view that ends with this status was shown to its end
+abbrev is_end : (status : ℕ) → Bool
+is_end status = (status == 0) || (status == 10)
+
+ends_so : (status : ℕ) → IsToItsEnd status → is_end status ≡ true
+ends_so status (inl is) = rw is refl
+ends_so status (inr is) = rw is refl
+
+fault_no_end : (fault : InputFault) → is_end (fault_status fault) ≡ false
+fault_no_end faults.Cut = refl
+fault_no_end faults.Magic = refl
+fault_no_end faults.Version = refl
+fault_no_end faults.Link = refl
+fault_no_end faults.Block = refl
+fault_no_end faults.Long = refl
+fault_no_end faults.Many = refl
+fault_no_end faults.ReadFault = refl
+
+no_end : (stop : Stop) → is_end (status_of stop) ≡ false
+no_end stops.Words = refl
+no_end (stops.Record number) = refl
+no_end (stops.Frame number) = refl
+no_end (stops.Input fault offset) = fault_no_end fault
+no_end (stops.Output fault offset) = fault_no_end fault
+no_end stops.Unread = refl
+no_end stops.Unwritten = refl
+no_end stops.Memory = refl
+no_end (stops.Report line) = refl
+
+-- a stop does not have the status of a view that was shown to its end
+pub told_no_end : (stop : Stop) (before now status : ℕ) → Tells stop before now status → IsToItsEnd status → ⊥
+told_no_end stop before now status (inl told) is = let e = sym (no_end stop) ∙ sym (ap is_end told) ∙ ends_so status is in cc
+told_no_end stop before now status (inr (inl told)) is = let e = sym (ap is_end told.0) ∙ ends_so status is in cc
+told_no_end stop before now status (inr (inr told)) is = let e = sym (ap is_end told) ∙ ends_so status is in cc
+
+-- the statuses that are returned
+abbrev IsStatus : ℕ → Type 0
+IsStatus status = (status ≤ 5) ⊎ ((7 ≤ status) × (status ≤ 10))
+
+fault_known : (fault : InputFault) → IsStatus (fault_status fault)
+fault_known faults.Cut = inl (omega arith)
+fault_known faults.Magic = inl (omega arith)
+fault_known faults.Version = inl (omega arith)
+fault_known faults.Link = inl (omega arith)
+fault_known faults.Block = inl (omega arith)
+fault_known faults.Long = inl (omega arith)
+fault_known faults.Many = inl (omega arith)
+fault_known faults.ReadFault = inl (omega arith)
+
+status_known : (stop : Stop) → IsStatus (status_of stop)
+status_known stops.Words = inl (omega arith)
+status_known (stops.Record number) = inl (omega arith)
+status_known (stops.Frame number) = inl (omega arith)
+status_known (stops.Input fault offset) = fault_known fault
+status_known (stops.Output fault offset) = fault_known fault
+status_known stops.Unread = inl (omega arith)
+status_known stops.Unwritten = inr (omega arith, omega arith)
+status_known stops.Memory = inr (omega arith, omega arith)
+status_known (stops.Report line) = inr (omega arith, omega arith)
+
+pub told_known : (stop : Stop) (before now status : ℕ) → Tells stop before now status → (status ≤ 5) ⊎ ((7 ≤ status) × (status ≤ 10))
+told_known stop before now status (inl told) = subst IsStatus (sym told) (status_known stop)
+told_known stop before now status (inr (inl told)) = inr (omega (arith, told.0), omega (arith, told.0))
+told_known stop before now status (inr (inr told)) = inr (omega (arith, told), omega (arith, told))
+
+-- a stop whose cause holds was told
+pub stopped_by : (words : List (List ℕ)) (before : Moment) (now : FaultCounts) (stop : Stop) (mid status : ℕ) → (Rose mid now.out → Rose before.out now.out)
+    → Cause words before now stop → Tells stop mid now.out status → Stopped words before now status
+stopped_by words before now stop mid status wider cause (inl told) = record { stop = stop; cause = cause; status_is = told }
+stopped_by words before now stop mid status wider cause (inr (inl told)) = record { stop = stops.Unwritten; cause = record { is = wider told.1 }; status_is = told.0 }
+stopped_by words before now stop mid status wider cause (inr (inr told)) = record { stop = stops.Memory; cause = record { is = tt }; status_is = told }
+
+-- the cause of a stop of a view whose words were accepted
+pub cause_of : (words : List (List ℕ)) (before : Moment) (mid now : FaultCounts) (stop : Stop) → mid.input ≡ now.input → mid.output ≡ now.output
+    → mid.report ≡ now.report → mid.out ≤ now.out → FilesStop (sources_at before) (faults_of before) mid stop → Cause words before now stop
+cause_of words before mid now stop input output report out =
+    says_more (λ none. absurd none) (λ x. x) (λ x. x) (λ x. x)
+    (λ rose. elim rose [
+      | inl i ↦ inl (rose_within _ _ _ _ (omega arith) (omega (arith, input)) i)
+      | inr more ↦ elim more [
+        | inl o ↦ inr (inl (rose_within _ _ _ _ (omega arith) (omega (arith, output)) o))
+        | inr r ↦ inr (inr (rose_within _ _ _ _ (omega arith) (omega (arith, report)) r))
+      ]
+    ])
+    (λ rose. rose_within _ _ _ _ (omega arith) out rose) stop
+
+-- what is returned where the words are refused
+pub refused_told : (status before now : ℕ) → Tells stops.Words before now status → (status ≡ 2) ⊎ (status ≡ 7) ⊎ (status ≡ 8)
+refused_told status before now (inl told) = inl told
+refused_told status before now (inr (inl told)) = inr (inl told.0)
+refused_told status before now (inr (inr told)) = inr (inr told)

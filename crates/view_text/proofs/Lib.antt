@@ -1,4 +1,0 @@
-pub mod Dates
-pub mod Clocks
-pub mod Lists
-pub mod Frames
