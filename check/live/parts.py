@@ -1,0 +1,149 @@
+"""The parts of check/bridge: how they are listed and run, and what they are given."""
+
+import os
+import shutil
+import subprocess
+import tempfile
+import time
+from contextlib import contextmanager
+
+from live.network import INNER, OUTER
+from live.program import bridged, report_end, total
+
+# What becomes of a frame that was received: one of these.
+FATES = ("given", "arp", "forged", "unjudged", "too-long", "down")
+
+# A part is a name, the programs of the system that it needs, and a function that returns what it
+# measured.
+PARTS = []
+
+
+class Fault(Exception):
+    """A bridge does not do what it has to."""
+
+
+def part(name, *needs):
+    """Adds the function that follows to the parts."""
+    def add(work):
+        PARTS.append((name, needs, work))
+        return work
+    return add
+
+
+def require(fact, what):
+    if not fact:
+        raise Fault(what)
+
+
+class Trial:
+    """What a part is given: the line, the words of the command line, and a folder."""
+
+    def __init__(self, line, asked, folder):
+        self.line, self.asked, self.folder = line, asked, folder
+
+    @contextmanager
+    def place(self):
+        made = tempfile.mkdtemp(dir=self.folder)
+        os.chmod(made, 0o777)           # norm-bridge and norm may have become another user.
+        try:
+            yield made
+        finally:
+            shutil.rmtree(made, ignore_errors=True)
+
+    @contextmanager
+    def bridge(self, *options, after=(), before=(), rested=True):
+        """norm-bridge with a report, in a folder of its own. `rested`: nothing talks yet, so
+        that its counts can be compared with those of the interfaces."""
+        with self.place() as folder, bridged(self.line, self.asked, folder, ["--report", os.path.join(folder, "report"), *options], after, before) as made:
+            made.base = base(made) if rested else None
+            yield made
+
+
+def run(trial, name, needs, work):
+    """Runs one part and prints its line. Returns True, False, or None where it was not run."""
+    lacking = [tool for tool in needs if shutil.which(tool) is None]
+    if lacking:
+        print("bridge, %s: not run, since it needs: %s" % (name, " ".join(lacking)), flush=True)
+        return None
+    begun = time.monotonic()
+    try:
+        said, right = work(trial), True
+    except Fault as fault:
+        said, right = "FAULT: %s" % fault, False
+    except (OSError, ValueError, KeyError, subprocess.SubprocessError) as fault:
+        said, right = "FAULT: %s: %s" % (type(fault).__name__, fault), False
+    print("%-18s %s, %.1f s" % (name, said, time.monotonic() - begun), flush=True)
+    return right
+
+
+# Counts
+
+def rest(line, seconds=5):
+    """Waits until the interfaces of the bridge have counted nothing for a moment; returns what
+    they have counted, or None if they do not rest."""
+    deadline, before = time.monotonic() + seconds, None
+    while time.monotonic() < deadline:
+        now = line.statistics()
+        if now == before:
+            return now
+        before = now
+        time.sleep(0.3)
+    return None
+
+
+def base(bridge):
+    """What the interfaces and the bridge have counted at rest: an interface counts also what
+    arrives before it is read. None if there is no rest."""
+    while (before := rest(bridge.line)) is not None:
+        counts = bridge.counts()
+        if bridge.line.statistics() == before:
+            return before, counts
+    return None
+
+
+def ended(bridge):
+    """Ends the bridge at rest, and compares its counts with those of the report and, if it began
+    at rest, of the interfaces. Returns the counts."""
+    rest(bridge.line)
+    status = bridge.end()
+    require(status == 0, "asked to end, it ends with %s: %s" % (status, bridge.words()[-200:].strip()))
+    counts, report = bridge.last_counts(), report_end(bridge.folder)
+    facts = list(sums(counts)) + list(sums_of_norm(counts, report))
+    if bridge.base is not None:
+        facts += sums_of_interfaces(bridge.base, (bridge.line.statistics(), counts))
+    for fact, what in facts:
+        require(fact, what + ": " + shown(counts))
+    return counts
+
+
+def shown(counts):
+    return " ".join("%s %d" % pair for pair in counts.items() if pair[1])
+
+
+# What has to be equal, each with what it means if it is not.
+
+def sums(counts):
+    """Each frame that was received is counted once more."""
+    for side in ("outside", "inside"):
+        received, known = counts[side + ".received"], sum(counts[side + "." + what] for what in FATES)
+        yield received == known, "it received %d frames %s, and counts what became of %d" % (received, side, known)
+
+
+def sums_of_interfaces(before, after):
+    """The frames that the interfaces counted, at rest."""
+    for side, device in (("outside", OUTER), ("inside", INNER)):
+        risen = {what: after[1][side + "." + what] - before[1][side + "." + what] for what in ("received", "kernel", "sent")}
+        arrived, sent = (after[0][device, what] - before[0][device, what] for what in ("rx_packets", "tx_packets"))
+        yield risen["received"] + risen["kernel"] == arrived, "%d frames arrived %s, and it counts %d" % (arrived, side, risen["received"] + risen["kernel"])
+        yield risen["sent"] == sent, "%d frames were sent %s, and it counts %d" % (sent, side, risen["sent"])
+
+
+def sums_of_norm(counts, report):
+    """What norm was given and wrote, by its report."""
+    if report is None:
+        yield False, "the report has no end"
+        return
+    given, wrote = total(counts, "given"), counts["norm.wrote"]
+    yield report == (given, wrote), "the report has %d records and %d frames, and it counts %d and %d" % (*report, given, wrote)
+    out, sent = wrote + total(counts, "arp"), total(counts, "sent") + total(counts, "failed")
+    yield out == sent, "%d frames were to be sent, and it counts %d" % (out, sent)
