@@ -110,6 +110,22 @@ def leaves_octets_on_a_syn(packets):
     return [packet for packet in inward(packets) if not fields(packet)[1].flags & SYN]
 
 
+def refuses_segments_without_ack(packets):
+    """Drops a segment with neither SYN, RST nor ACK (RFC 9293 section 3.10.7.4)."""
+    return [packet for packet in inward(packets) if fields(packet)[1].flags & (SYN | RST | ACK)]
+
+
+def waits_for_its_answer(packets):
+    """Drops what arrives between a SYN and the answer to it."""
+    read, answered = [], False
+    for packet in packets:
+        ip, tcp = fields(packet)
+        answered = answered or ip.dst != INSIDE
+        if ip.dst == INSIDE and (answered or tcp.flags & SYN):
+            read.append(packet)
+    return read
+
+
 def stops_at_a_fin(packets):
     return before(inward(packets), FIN)
 
@@ -216,8 +232,20 @@ def forgets_after_a_minute(packets):
     return inward(read)
 
 
+def loses_each_fin(packets):
+    """A FIN does not reach it; nothing else is lost."""
+    return [packet for packet in inward(packets) if not fields(packet)[1].flags & FIN]
+
+
+def begins_at_second_100(packets):
+    """Has forgotten what was before."""
+    return [packet for packet in inward(packets) if packet.second >= 100]
+
+
 READERS = {reader.__name__: reader for reader in (
-    every_packet, behind_a_router, takes_the_urgent_octet_out, stops_at_a_reset, verifies_checksums, refuses_reserved_bits,
-    keeps_octets_on_a_syn, leaves_octets_on_a_syn, stops_at_a_fin, keeps_to_its_window, refuses_header_options,
-    keeps_the_octet_of_the_first_fragment, keeps_the_octet_of_the_last_fragment, refuses_older_timestamps, refuses_acknowledgments_of_the_future,
-    has_room_for_four_octets, reads_four_octets, begins_again_at_a_syn, stops_at_the_fin_of_the_host, forgets_after_a_minute)}
+    every_packet, behind_a_router, takes_the_urgent_octet_out, stops_at_a_reset, verifies_checksums,
+    refuses_reserved_bits, keeps_octets_on_a_syn, leaves_octets_on_a_syn, refuses_segments_without_ack,
+    waits_for_its_answer, stops_at_a_fin, keeps_to_its_window, refuses_header_options,
+    keeps_the_octet_of_the_first_fragment, keeps_the_octet_of_the_last_fragment, refuses_older_timestamps,
+    refuses_acknowledgments_of_the_future, has_room_for_four_octets, reads_four_octets, begins_again_at_a_syn,
+    stops_at_the_fin_of_the_host, forgets_after_a_minute, loses_each_fin, begins_at_second_100)}

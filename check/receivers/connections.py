@@ -1,4 +1,5 @@
-"""The connections of a capture as receivers meet them: the eras of norm's report, and the packets of each, as sent and as forwarded."""
+"""The connections of a capture as receivers meet them: the eras of norm's report, and the packets
+of each, as sent and as forwarded."""
 
 import functools
 import os
@@ -6,14 +7,18 @@ import subprocess
 from types import SimpleNamespace
 
 from norm_model import eras
+from norm_model.built import WHOLE
 from norm_model.capture import ETHERNET
 from norm_model.engine import read_segment
 from norm_model.formats import ACK, FIN, RST, SYN, TCP, four, pseudo_sum, read_ipv4, read_options, read_tcp, sum_right, u16, u32
 from norm_model.report import frames_by_entry, read_report
-from norm_model.run import read_input
+from norm_model.run import read_input, run
 from norm_model.words import is_trusted
 
 TIMESTAMPS, SACK_PERMITTED = 8, 4
+
+# The number of addresses that outside_like gives.
+OUTSIDES = 0x1FFF
 
 
 # Captures
@@ -42,16 +47,24 @@ def run_norm(program, words, given, folder):
     done = subprocess.run([program] + [paths.get(word, word) for word in words], stdout=subprocess.PIPE, stderr=subprocess.DEVNULL, timeout=120, check=False)
     if done.returncode != 0:
         return done.returncode, None, []
-    report = read_report(done.stdout.decode("ascii", "replace"))
+    with open(paths["OUT"], "rb") as file:
+        return (0,) + by_record(done.stdout.decode("ascii", "replace"), file.read())
+
+
+def run_model(words, given):
+    """The same of the plain model."""
+    status, written, text = run(words, given, WHOLE)
+    return (0,) + by_record(text, written) if status == 0 else (status, None, [])
+
+
+def by_record(text, written):
+    """The report, and for each record the packets that were written."""
+    report, frames = read_report(text), packets_in(written)
     if isinstance(report, tuple):
         raise ValueError("the report cannot be read back")
-    with open(paths["OUT"], "rb") as file:
-        frames = packets_in(file.read())
     if len(frames) != sum(entry.packets for entry in report.entries):
         raise ValueError("OUT has other frames than the report says")
-    if not all(map(is_right, frames)):
-        raise ValueError("OUT has a segment with a wrong checksum, which receivers pass over")
-    return 0, report, frames_by_entry(report.entries, frames)
+    return report, frames_by_entry(report.entries, frames)
 
 
 # Packets
@@ -74,7 +87,8 @@ def key_of(packet, inward):
 
 @functools.lru_cache(maxsize=4096)
 def tcp_of(packet, fragment=False):
-    """The segment of a packet that has a whole TCP header and, but for `fragment`, is no fragment; or None."""
+    """The segment of a packet that has a whole TCP header and, but for `fragment`, is no fragment;
+    or None."""
     ip = read_ipv4(packet)
     if ports_at(packet) is None or ip.mf and not fragment or not ip.header + 20 <= ip.total <= len(packet):
         return None
@@ -98,7 +112,8 @@ def inward_of(settings, packet):
 
 
 def renamed(packet, inward, outside, inside):
-    """The packet with these addresses. Each has the sum of the one that it replaces, so every checksum stays as right or wrong as it was."""
+    """The packet with these addresses. Each has the sum of the one that it replaces, so every
+    checksum stays as right or wrong as it was."""
     return packet[:12] + (four(outside) + four(inside) if inward else four(inside) + four(outside)) + packet[20:]
 
 
@@ -109,7 +124,7 @@ def with_sum(address, high):
 
 def outside_like(address, number):
     """The address with this number, of 8,191 in 192.0.0.0/3, in the place of one outside."""
-    return with_sum(address, 0xC000 + number % 0x1FFF)
+    return with_sum(address, 0xC000 + number % OUTSIDES)
 
 
 def inside_like(address):
@@ -118,7 +133,8 @@ def inside_like(address):
 
 
 def moved(packet, shift, echo=None):
-    """The packet with its acknowledgment, and its echoed timestamp, as the host's own numbers require; a right checksum stays right and a wrong one wrong."""
+    """The packet with its acknowledgment, and its echoed timestamp, as the host's own numbers
+    require; a right checksum stays right and a wrong one wrong."""
     at = ports_at(packet)
     if at is None or at + 20 > len(packet) or not packet[at + 13] & ACK:
         return packet
@@ -147,7 +163,8 @@ def echo_at(packet):
 # Eras
 
 def eras_in(settings, report, written):
-    """The eras of the report that have a first octet, each with what its written packets say of it."""
+    """The eras of the report that have a first octet, each with what its written packets say of
+    it."""
     found = {}
     for entry, packets in zip(report.entries, written):
         for packet in packets:
@@ -166,7 +183,8 @@ def eras_in(settings, report, written):
 
 
 def described(era, others):
-    """What a receiver of the era is set up with. `last` is the record before the next era of the four-tuple begins."""
+    """What a receiver of the era is set up with. `last` is the record before the next era of the
+    four-tuple begins."""
     later = [other.begun for other in others if other.key == era.key and other.begun > era.begun]
     syns = [[segment for segment in era.segments if segment.inward == side and segment.flags & SYN] for side in (True, False)]
     agreed = kinds_of(syns[0]) & kinds_of(syns[1]) if syns[0] and syns[1] else set()
@@ -182,8 +200,8 @@ def kinds_of(syns):
 
 
 def packets_of_eras(settings, eras_of_report, forwarded):
-    """For each era its packets with their sides. `forwarded` has pairs of a record's number and a packet; a fragment that does not name its ports is of each
-    connection between the two hosts."""
+    """For each era its packets with their sides. `forwarded` has pairs of a record's number and a
+    packet; a fragment that does not name its ports is of each connection between the two hosts."""
     found = [[] for _ in eras_of_report]
     for number, packet in forwarded:
         inward = inward_of(settings, packet)

@@ -42,7 +42,7 @@ LONGEST_ANSWER = 2**22
 
 SETTINGS = {
     "ipv4/conf/all/rp_filter": 0, "ipv4/conf/default/rp_filter": 0, "ipv4/conf/tun0/rp_filter": 0, "ipv6/conf/all/disable_ipv6": 1,
-    "ipv4/conf/all/log_martians": 0, "ipv4/tcp_syncookies": 0, "ipv4/tcp_fastopen": 0, "ipv4/tcp_no_metrics_save": 1, "ipv4/icmp_ratelimit": 0,
+    "ipv4/conf/all/log_martians": 0, "ipv4/tcp_syncookies": 0, "ipv4/tcp_fastopen": 0, "ipv4/tcp_max_tw_buckets": 0, "ipv4/tcp_no_metrics_save": 1, "ipv4/icmp_ratelimit": 0,
     "ipv4/tcp_rmem": "4096 1048576 268435456", "ipv4/ipfrag_time": 5,
 }
 

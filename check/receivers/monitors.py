@@ -10,6 +10,7 @@ import re
 import shutil
 import socket
 import subprocess
+import tempfile
 import time
 from types import SimpleNamespace
 
@@ -120,7 +121,9 @@ def read_tshark(folder, path, deadline):
         words += ["-e", field]
     numbers = set()
     for line in run(words, folder, deadline).splitlines():
-        numbers.add(int(line.split("\t")[0].split(",")[0]))
+        number = line.split("\t")[0].split(",")[0]
+        if number:                                  # tshark calls a segment with a cut header TCP and gives it no stream.
+            numbers.add(int(number))
     found = {}
     for start in range(0, max(numbers, default=-1) + 1, CHUNK):
         asked = [number for number in range(start, start + CHUNK) if number in numbers]
@@ -140,18 +143,16 @@ def present(text):
 
 def read_tcpflow(folder, path, deadline):
     """Streams by their ends; none where tcpflow writes the octets of two ends into several files."""
-    there = os.path.join(folder, "tcpflow")
-    shutil.rmtree(there, ignore_errors=True)
-    os.mkdir(there)
-    run(["tcpflow", "-r", path, "-o", there], folder, deadline)
     found = {}
-    for name in sorted(os.listdir(there)):
-        ends = FLOW.fullmatch(name)
-        if ends is not None:
-            numbers = [str(int(number)) for number in ends.groups()[:10]]
-            key = ".".join(numbers[:4]) + ":" + numbers[4], ".".join(numbers[5:9]) + ":" + numbers[9]
-            with open(os.path.join(there, name), "rb") as file:
-                found[key] = None if ends[11] else file.read()
+    with tempfile.TemporaryDirectory(dir=folder) as there:
+        run(["tcpflow", "-r", path, "-o", there], folder, deadline)
+        for name in sorted(os.listdir(there)):
+            ends = FLOW.fullmatch(name)
+            if ends is not None:
+                numbers = [str(int(number)) for number in ends.groups()[:10]]
+                key = ".".join(numbers[:4]) + ":" + numbers[4], ".".join(numbers[5:9]) + ":" + numbers[9]
+                with open(os.path.join(there, name), "rb") as file:
+                    found[key] = None if ends[11] else file.read()
     return found
 
 

@@ -52,11 +52,13 @@ def readings_of(connections, receivers):
     return [reading for connection in connections for reading in connection.readings if reading.receiver in receivers]
 
 
-def hosts_lines(versions, attacks, rows, before, after):
+def hosts_lines(versions, attacks, rows, before, after, broken):
     yield system(versions)
     yield "attacks", len(attacks), sum(len(connections) for connections in before)
     for row in rows:
         yield ("disagree",) + row
+    for name, counts in broken.items():
+        yield ("broken", name) + counts["before"] + counts["after"]
     for attack, one, other in zip(attacks, before, after):
         if attack.kind == "evasion":
             receivers = ["kernel"] + list(versions)
@@ -84,3 +86,14 @@ def rivals_lines(nft, versions, attacks, rows, plain, kept, found):
 
 def write_rivals(*found):
     write("rivals.txt", rivals_lines(*found))
+
+
+def without_lines(versions, attacks, rows):
+    yield system(versions)
+    yield "attacks", len(attacks)
+    for row in rows:
+        yield "rule", row.rule, row.changed, row.disagree, row.who, row.less, row.whose
+
+
+def write_without(*found):
+    write("without.txt", without_lines(*found))
