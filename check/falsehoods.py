@@ -1,19 +1,11 @@
 """What check/falsified tries: false programs, the checks with what they need, false files, what `rt` says, and why a check does not notice one."""
 
-PROGRAMS = ("norm", "normaudit", "normview")
+from late_falsehoods import ENDS, PROGRAMS
 
 # A check whose run is killed kills the built program, too.
 HEAD = """#!/bin/bash
 real=%s
 run() { setpriv --pdeathsig KILL "$real" "$@"; }
-"""
-
-# The words of a run of norm up to IN are left out.
-ENDS = """run "$@"; status=$?
-[ "${1-}" = run ] && [ $status -eq 0 ] || exit $status
-shift
-while case ${1-} in --offload | --both | --*=*) shift ;; --*) shift 2 ;; *) false ;; esac; do :; done
-[ -f "${2-}" ] || exit $status
 """
 
 REFUSES = """for word; do case $word in %s | %s=*) echo 'stop words 1'; exit 2 ;; esac; done
@@ -51,18 +43,13 @@ printf "\\\\x$(printf %02x $(((last + 1) % 256)))" | dd of="$2" bs=1 seek=$((siz
     },
 }
 
-# What is false of standard error, which `errors` alone reads.
-SAID = {
-    "says nothing on standard error": 'run "$@" 2> /dev/null\n',
-    "says two lines on standard error": 'run "$@"; status=$?; [ $status -eq 0 ] || echo more >&2; exit $status\n',
-}
-
 ROUTER = ["root", "/dev/net/tun", "ip"]
 
 # The checks that run programs: their words, the programs that they run, and what they need: programs of the system, files, root.
 CHECKS = {
     "all": ("", PROGRAMS, []),
     "audits": ("", ["normaudit"], []),
+    "bridge": ("--only counts,attacks --random 20", ["norm"], ["root", "ip", "ethtool", "cc", "/usr/include/pcap.h", "tcpdump", "tcpflow"]),
     "compare": ("--count 20", ["norm"], []),
     "cuts": ("--count 1", ["norm"], ["tshark"]),
     "errors": ("", PROGRAMS, []),
@@ -71,6 +58,7 @@ CHECKS = {
     "hostile": ("2000 1", ["norm", "normaudit"], ["cc"]),
     "hosts": ("--count 0", ["norm"], ROUTER),
     "installs": ("", PROGRAMS, []),
+    "large": ("", PROGRAMS, []),
     "notes": ("--count 1", ["norm", "normview"], []),
     "pages": ("--no-network docs/RECIPES.md docs/REPORT.md docs/RULES.md", PROGRAMS, ["jq", "tcpdump"]),
     "parts": ("--records 20000 --parts 2", ["norm", "normaudit"], ["cc", "mergecap", "tcpdump"]),
@@ -81,12 +69,31 @@ CHECKS = {
     "rivals": ("--count 0", ["norm"], [*ROUTER, "nft"]),
     "rotated": ("", ["norm"], ["dumpcap", "editcap", "mergecap", "tcpdump"]),
     "slurm": ("--records 4000 --parts 4", ["norm", "normaudit"], ["root", "munged", "slurmctld", "slurmd", "sbatch", "tcpdump", "parallel"]),
-    "starved": ("--trials 4 --records 2000 --only killed,readers,shrinks,two", ["norm"], []),
+    "starved": ("--trials 4 --records 2000 --only killed,disk,report,readers,shrinks,two", ["norm"], []),
     "too_many": ("cut", ["norm"], []),
     "tools": ("--count 0 community", ["norm", "normview"], ["tshark"]),
     "views": ("--count 20", ["normview"], []),
+    "waits": ("", ["norm"], []),
     "worked": ("", ["norm"], []),
 }
+
+# The parts of a check, each of which must pass the true programs, besides the words of `check/all`.
+PARTS = {
+    "starved": ["--trials 4 --records 2000 --only " + part for part in ("killed", "disk", "report", "readers", "shrinks", "two", "memory")],
+    "mutants": ["--only " + module for module in (
+        "link_rows", "fragment_rows", "datagram_rows", "segment_rows", "era_rows", "eras", "frames", "engine", "formats", "capture", "pcapng", "words",
+        "both_sides", "report", "run", "notes", "view", "view_fields", "view_lists", "view_texts")],
+    "compare": ["--count 100", "--pcapng --count 20", "--both --count 20", "--words --count 50", "--loads --count 20"],
+}
+
+# Checks that are run on the built program itself first: a script around it would be disturbed, too.
+BARE = {
+    "refused_memory": "the allocations of the script would be refused, too",
+    "starved": "the script would have the limits, too",
+}
+
+# Those whose true programs have no run of their own, with the reason.
+NO_TRUE_RUN = {"all": "it runs checks that are in these tables, and each with its words", "too_many": "the built program takes twenty minutes"}
 
 # Checks of which only the program that does nothing is tried, with the reason.
 ONLY_NOTHING = {
@@ -117,8 +124,11 @@ BY_HAND = {
 REASONS = {
     **{(check, "norm", "refuses --quota"): "it runs nothing with --quota"
        for check in ("cuts", "errors", "evasions", "first_captures", "hostile", "hosts", "installs", "parts", "pcapng", "pictures", "real_ends",
-                     "rivals", "rotated", "starved")},
+                     "rivals", "rotated", "starved", "waits")},
+    ("bridge", "norm", "refuses --quota"): "it runs nothing with --quota",
+    ("large", "norm", "refuses --quota"): "it runs nothing with --quota",
     **{(check, "norm", "copies IN to OUT"): "its captures pass as they are" for check in ("errors", "installs", "real_ends")},
+    ("waits", "norm", "copies IN to OUT"): "its IN is never a file",
     **{(check, "norm", "one octet of one frame changed"): "it compares runs of one program" for check in ("pcapng", "rotated")},
     **{(check, "normaudit", "answers yes always"): "all its audits are answered yes" for check in ("hostile", "installs", "pages", "parts")},
     ("errors", "norm", "one octet of one frame changed"): "it does not read OUT",
@@ -146,9 +156,30 @@ def without_line(path, old):
     return path, lambda text: "".join(line for line in text.splitlines(True) if line != next((it for it in text.splitlines(True) if old in it), None))
 
 
+FRAMES = "contrib/bridge/frames.c"
+
 # The checks that read files of the tree: their words, what is false of a file, and the programs that they run.
 FILES = {
+    "bridge attacks": ("--only attacks --random 20", "the bridge passes frames that norm has not judged",
+                       changed(FRAMES, "if (options.without_norm) {", "if (true) {"), "norm"),
+    "bridge forged": ("--only forged", "a frame with a forged side is judged",
+                      changed(FRAMES, "trusted(address_at(frame + 26)) != (from == &sides[INSIDE])", "false"), "norm"),
+    "bridge counts": ("--only counts", "the bridge loses a frame before it is counted",
+                      changed(FRAMES, "ADD(from->received, 1);", "static unsigned lost; if (++lost % 64 == 0) return; ADD(from->received, 1);"), "norm"),
+    "bridge ping": ("--only ping", "the bridge does not send each frame that norm wrote",
+                    changed(FRAMES, "ADD(norm->written, 1);", "static unsigned lost; if (++lost % 64 == 0) continue; ADD(norm->written, 1);"), "norm"),
+    "bridge restarted": ("--only restarted", "frames pass while norm is down",
+                         changed(FRAMES, "!atomic_load_explicit(&passing, memory_order_relaxed)", "false"), "norm"),
     "texts": ("", "an option is missing in norm(1)", without_line("docs/norm.1", "quota")),
+    "texts synopsis": ("", "the synopsis of norm(1) lacks `load`", changed("docs/norm.1", ".br\n.B norm load\n.I SEED COUNT\n", "")),
+    "texts statuses": ("", "README.md has the statuses 4 and 5 exchanged", changed("README.md", "| 4, 5 | `stop cut`", "| 5, 4 | `stop cut`")),
+    "texts meanings": ("", "README.md has the meanings of 4 and 5 exchanged",
+                       changed("README.md", "IN ends inside its head, a record or a block; IN could not be opened or read",
+                               "IN could not be opened or read; IN ends inside its head, a record or a block")),
+    "links": ("", "a link of README.md leads to no heading", changed("README.md", "](docs/REPORT.md#notes)", "](docs/REPORT.md#remarks)")),
+    "links file": ("", "a link leads to no file", added("docs/RULES.md", "\nSee [the proofs](PROOFS.md).\n")),
+    "links name": ("", "a page names a script that does not exist", added("docs/RECIPES.md", "\nSee `check/nothing`.\n")),
+    "links script": ("", "check/README.md does not name a script", without_line("check/README.md", "`check/audits`")),
     "words": ("", "README.md says `flow`", added("README.md", "\nA flow has packets.\n")),
     "surface": ("", "docs/API.md lacks an item", without_line("docs/API.md", "fn read_prefix(")),
     "statement": ("--page", "docs/STATEMENT.md lacks its counts", without_line("docs/STATEMENT.md", " definitions, ")),
@@ -162,6 +193,27 @@ FILES = {
                       changed("check/norm_model/view_fields.py", '"checksum": u16(message, 16)', '"checksum": u16(message, 14)')),
     "notes": ("--count 1", "the model finds no lost octets", changed("check/norm_model/notes.py", "return max(0, missing", "return min(0, missing")),
     "promises": ("--count 40", "the model replaces no octets", changed("check/norm_model/era_rows.py", "T_END, T_CLASH]", "T_END]")),
+    "promises streams": ("--count 20 --only streams", "the model names T_CLASH and replaces no octets",
+                         changed("check/norm_model/frames.py", "bytes(case.era.first.get(place, own[place - kept.off]) for", "bytes(own[place - kept.off] for")),
+    "promises cut": ("--count 40 --only streams", "the model cuts a segment with other sequence numbers",
+                     changed("check/norm_model/cuts.py", "four(tcp.seq + start)", "four(tcp.seq + start + index)")),
+    "promises receivers": ("--count 20 --only streams", "a receiver keeps a FIN one octet later",
+                           changed("check/norm_model/receivers.py", "near(tcp.seq + len(tcp.payload) - stream.base",
+                                   "near(tcp.seq + len(tcp.payload) + 1 - stream.base")),
+    "promises brought": ("--count 20 --only brought", "the model writes the octets of a segment from the first one on",
+                         changed("check/norm_model/frames.py", "own[place - kept.off])", "own[place - kept.low])")),
+    "promises clashes": ("--count 20 --only clashes", "the model does not compare the first octet of a segment",
+                         changed("check/norm_model/era_rows.py", "for place in range(case.kept.low, case", "for place in range(case.kept.low + 1, case")),
+    "promises fragments": ("--count 40 --only clashes", "the model does not compare the first octet of a fragment",
+                           changed("check/norm_model/fragment_rows.py", "octet) != octet for i, octet in enumerate(piece.octets))",
+                                   "octet) != octet for i, octet in enumerate(piece.octets) if i)")),
+    "promises agreeing": ("--count 20 --only agreeing", "the model names T_CLASH of octets that are cut off",
+                          changed("check/norm_model/era_rows.py", "        != case.tcp.payload[place - case.kept.off]",
+                                  "        != case.tcp.payload[place - case.kept.low]")),
+    "promises recorded": ("--count 40 --only recorded", "the model lets a packet pass whose TTL it changes",
+                          changed("check/norm_model/engine.py", 'entry.verdict = "fix" if rules else "pass"', 'entry.verdict = "fix" if rules and rules != ["I_TTL"] else "pass"')),
+    "promises successors": ("--count 40 --only successors", "the model writes octets that are acknowledged",
+                            changed("check/norm_model/eras.py", "low = max(off, acked(era))", "low = off")),
     "rotated": ("", "files are in the order of their names", changed("contrib/norm-rotated", "(it.time or 0, it.number))\n", "it.path)\n"), "norm"),
     "slurm": ("--records 4000 --parts 4", "a part that is killed counts as finished",
               changed("contrib/parts/norm-part", "report=$folder/report.${SLURM_JOB_ID:-$$}.part", "report=$folder/report.txt"), "norm", "normaudit"),
@@ -195,8 +247,8 @@ PROVER = {
     }),
 }
 
-# Scripts that are no check.
-TOOLS = ("falsified", "follow", "make_captures.py", "model.py")
+# Scripts that are no check, or that judge no program of this repository.
+TOOLS = ("falsified", "follow", "make_captures.py", "model.py", "stacks", "without")
 
 # The checks that take longest, so that none of them is left for the end.
 LONGEST = ("real_ends", "errors", "pages", "first_captures", "hosts", "rivals", "installs")
