@@ -4,3 +4,4 @@ pub mod Traces
 pub mod Unsided
 pub mod Views
 pub mod Heads
+pub mod Meeting

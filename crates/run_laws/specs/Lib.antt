@@ -1,3 +1,4 @@
 pub mod ReadBack
 pub mod Audit
 pub mod View
+pub mod Meeting

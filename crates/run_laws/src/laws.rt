@@ -1,5 +1,6 @@
 //! Laws of what a finished run wrote.
 ghost use Rattle.run_laws.specs.Audit.{RunsAreAuditedYes};
+ghost use Rattle.run_laws.specs.Meeting.{ReceiversOfRunsMeet};
 ghost use Rattle.run_laws.specs.ReadBack.{RunsAreReadBack};
 ghost use Rattle.run_laws.specs.View.{RunsAreViewedWhole};
 
@@ -7,6 +8,7 @@ use both_sides::laws::{one_puts_its_trace, two_put_their_mirror, unbounded_is_wr
 use emit_mtu::laws::{plain_packets_go_out, segments_fit};
 use norm_engine::laws::{items_are_counted, items_go_out};
 use pcap_file::laws::{head_is_read_back, record_is_read_back};
+use receiver_model::laws::parts_meet;
 use run_audit::laws::{answers_are_one, entries_fit, items_are_written_in_order, written_is_yes};
 use run_view::laws::runs_are_viewed;
 
@@ -47,4 +49,13 @@ pub fn runs_are_viewed_whole()
     segments_fit();
     two_put_their_mirror();
     runs_are_viewed();
+}
+
+/// Proves that any two receivers of what a finished run wrote inwards in an era have the same octet
+/// wherever both have read, from whichever offsets they start, that none has one at or past the
+/// offset at which the other has ended, and that two that have ended did so at one offset.
+pub fn receivers_of_runs_meet()
+    ensures { ReceiversOfRunsMeet }
+{
+    parts_meet();
 }

@@ -8,7 +8,8 @@
 //! returns 0, or 8 if memory could not be allocated, unless a count of faults rose. The capture that
 //! a run read and the two files that it wrote, under whatever options, are those of one list of
 //! items, so `view` returns 0, 10 or 8 of them in the same way; a run of more than 2^31 - 1 records or
-//! of more than 2^32 - 1 frames is not covered.
+//! of more than 2^32 - 1 frames is not covered. Any two receivers of what a run wrote inwards in an
+//! era have the same octet wherever both have read, from whichever offsets they start.
 //!
 //! No program uses this crate.
 #![tactic(auto)]
