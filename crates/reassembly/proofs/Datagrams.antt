@@ -20,9 +20,11 @@ use Rattle.reassembly.specs.Laws.{WholeIsItsPieces, IsSized, AreSized, IsSizedWh
 use Rattle.reassembly.proofs.Order.{all_filter}
 use Rattle.reassembly.proofs.Pieces.{not_big, clash_none, in_piece, ends_more, none_not}
 
--- What holds of a fragment that no rule drops, and so of the fragments of each datagram that is held.
+-- What holds for a fragment that no rule drops, and so for the fragments of each datagram that is
+-- held.
 
--- a fragment that no rule drops contradicts nothing, is no longer than a datagram may be, and has enough free cells
+-- a fragment that no rule drops contradicts nothing, is no longer than a datagram may be, and has
+-- enough free cells
 pub record FitsIn (v : View) (p : Fragment) : Type 0 where
   pub end : f_end v.pieces p ≡ false
   pub octets : f_clash v.pieces p ≡ false
@@ -108,7 +110,8 @@ same_or (Some y) b x same is = ap Some same
 stays : (a b : Option ℕ) (x : ℕ) → a ≡ Some x → option_or a b ≡ Some x
 stays a b x is = ap (λ o. option_or o b) is
 
--- the octets of each fragment are at their offsets, the last fragment ends at the last octet, and no fragment is empty
+-- the octets of each fragment are at their offsets, the last fragment ends at the last octet, and
+-- no fragment is empty
 abbrev pub StandAt : List Fragment → Fragment → Type 0
 StandAt ps q = (i : ℕ) → i < length q.octets → octet_of ps (q.offset + i) ≡ Some (slice_index q.octets i)
 

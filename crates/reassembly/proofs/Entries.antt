@@ -1,4 +1,5 @@
--- The table of datagrams and the store of octets: what they represent, and how a change of one entry changes it.
+-- The table of datagrams and the store of octets: what they represent, and how a change of one
+-- entry changes it.
 use Rattle.std.proofs.lemmas.List.Sums.{sum_by-cons}
 use Rattle.std.proofs.lemmas.List.Elements.{recursion_from_All}
 use Rattle.retain_store.specs.Maps.{Store, chain_of, octet_at}
@@ -136,7 +137,8 @@ others_at left g right id none same after =
     (ap not same)
     (all_weaker (λ (k : Gathered). is_id k.id id ≡ false) (λ (k : Gathered). not (is_id k.id id) ≡ true) (λ k e. ap not e) right after)
 
--- Changes of what the table and the store represent: one datagram has a fragment more, is removed, or is new.
+-- Changes of what the table and the store represent: one datagram has a fragment more, is removed,
+-- or is new.
 
 -- an entry of this identification and the datagram that it represents
 pub record Found (gs : List Gathered) (entries : List (Entry DatagramId Progress)) (store : Store) (slot : Slot) (id : DatagramId) : Type 0 where
@@ -182,7 +184,7 @@ progress_of gs entries store slot id progress f valued_so =
     let value_is : f.entry.here.value ≡ progress = wherever (λ (e : Entry DatagramId Progress). e.value ≡ progress) entries slot f.entry valued_so in
     subst (λ l. ProgressOf progress l) (sym f.pieces_are) (subst (λ v. ProgressOf v f.part.datagram.pieces) value_is f.part.here_stands.progress)
 
--- an entry of another slot has another slot than `slot`
+-- the slot of an entry of another slot is not `slot`
 apart : (entries : List (Entry DatagramId Progress)) (slot : Slot) (here : Entry DatagramId Progress) → here.slot ≡ slot
     → AllByRecursion (λ (e : Entry DatagramId Progress). e.slot ≢ here.slot) entries → IsFree entries slot.0
 apart entries slot here named ne =

@@ -1,4 +1,5 @@
--- A fragment that is taken: the first of its datagram, a further one, and the one that completes it.
+-- A fragment that is taken: the first of its datagram, a further one, and the one that completes
+-- it.
 use Rattle.std.specs.List.{AllPairs, range_with_len, AllByRecursion, count_by, list_any}
 use Rattle.std.proofs.lemmas.List.Elements.{recursion_from_All}
 use Rattle.std.proofs.lemmas.List.Sums.{sum_by-cons}
@@ -35,7 +36,8 @@ use Rattle.reassembly.proofs.Pieces.{whole_is, none_not}
 
 -- A fragment that no rule drops: what is held afterwards, and the datagram if it is complete.
 
--- a complete datagram: its total is its length, at most the longest, and each offset below it has an octet
+-- a complete datagram: its total is its length, at most the longest, and each offset below it has
+-- an octet
 pub record IsWhole (ps : List Fragment) (len : ℕ) : Type 0 where
   pub total_is : total_of ps ≡ Some len
   pub short : len ≤ 65515

@@ -1,4 +1,5 @@
--- Datagrams stay in order of their first fragments, so those that began too long ago are the first ones.
+-- Datagrams stay in order of their first fragments, so those that began too long ago are the first
+-- ones.
 use Rattle.std.proofs.Common.{◌≡◌, ℕ, ◌≤◌, not, Bool, true, false, cond, List, [], ◌∷◌, refl, ap, subst, ◌∙◌, arith, ◌≢◌, zero, suc, ◌+◌, length, take, drop, Some, None, sym, max, nat_lt}
 use Rattle.std.specs.List.{AllByRecursion, filter, AllPairs, count_by}
 use Rattle.std.proofs.lemmas.Bool.Decides.{nat_tests}
@@ -17,7 +18,8 @@ use Rattle.linked_table.specs.Table.{first_slot, Entry, Pairwise, Wherever}
 use Rattle.reassembly.specs.Assemblies.{AreInOrder, without_first, begins_old}
 use Rattle.reassembly.proofs.Entries.{Found, ids_other, id_same}
 
--- Datagrams stay in order of their first fragments, each has a fragment, and a fragment is looked up among them.
+-- Datagrams stay in order of their first fragments, each has a fragment, and a fragment is looked
+-- up among them.
 
 -- a fact of times
 all_with : (Q : ℕ → Type 0) (now : ℕ) (p : Fragment) (gs : List Gathered) → AllByRecursion (λ (g : Gathered). Q g.since) gs → Q now → AllByRecursion (λ (g : Gathered). Q g.since) (with_piece now p gs)

@@ -1,4 +1,4 @@
--- Which rule decides of a fragment.
+-- Which rule decides on a fragment.
 use Rattle.std.proofs.Common.{◌≡◌, ℕ, ◌<◌, ◌≤◌, Bool, true, false, cond, List, [], ◌∷◌, ◌++◌, Option, Some, None, refl, sym, ap, subst, ◌∙◌, arith, ◌&&◌, nat_lt}
 use Rattle.std.specs.Option.{option_or}
 use Rattle.std.proofs.lemmas.Bool.Decides.{nat_tests}
@@ -56,7 +56,7 @@ none_drops v p own odd many room =
     ∙ (ap (λ b. answer_by (cond b (Some FMany) (cond (f_room v p) (Some FRoom) None)) (is_whole (p ∷ v.pieces))) many
     ∙ ap (λ b. answer_by (cond b (Some FRoom) None) (is_whole (p ∷ v.pieces))) room))
 
--- the answer of a fragment that is dropped; its datagram goes if the rule forgets it
+-- the answer of a fragment that is dropped; its datagram is removed if the rule forgets it
 pub dropped_is : (now : ℕ) (gs : List Gathered) (p : Fragment) (answer : Answer) (rule : Rule) (buf : List ℕ) (a : Assembly) → answer ≡ dropped rule
     → HoldsFor (cond (forgets rule) (of_others p.id gs) gs) a.table.entries a.store → IsAnswered now gs p answer (offers.Drop rule) buf buf a
 dropped_is now gs p answer rule buf a is h =

@@ -29,8 +29,8 @@ pub record KeepsFor (settings : PlainSettings) (a : Assembly) (calls : List Call
   pub holds : HoldsFor (gathered settings.frag_time calls) a.table.entries a.store
   pub order : AreInOrder (gathered settings.frag_time calls) (latest calls)
 
--- With these datagrams held, a fragment got this answer at this time: what was returned, the datagrams held afterwards, and the buffer, `old` before it and
--- `new` after it.
+-- With these datagrams held, a fragment got this answer at this time: what was returned, the
+-- datagrams held afterwards, and the buffer, `old` before it and `new` after it.
 pub record IsAnswered (now : ℕ) (gs : List Gathered) (p : Fragment) (answer : Answer) (result : Offered) (old new : List ℕ) (a : Assembly) : Type 0 where
   pub says : result ≡ offered answer (whole_of (p ∷ pieces_in gs p.id))
   pub holds : HoldsFor (after now p answer gs) a.table.entries a.store

@@ -1,4 +1,5 @@
--- The calls of an assembly and their answers (this project's profile). Lists of calls have the newest at the head.
+-- The calls of an assembly and their answers (this project's profile). Lists of calls have the
+-- newest at the head.
 use Rattle.std.specs.Prelude.{ℕ, ◌+◌, ◌==◌, ◌&&◌, nat_lt, max, not, Bool, true, false, List, [], ◌∷◌, filter, if◌then◌else◌}
 use Rattle.std.specs.List.{sum_by}
 use Rattle.rule_book.specs.declared.rule.Rule.{Rule}
@@ -17,7 +18,8 @@ pub data Call : Type 0 where
   expiry : (now : ℕ) → Call
   offer : (now : ℕ) (came : Fragment) (answer : Answer) → Call
 
--- a datagram with held fragments: its identification, the arrival time of the first one, and the fragments
+-- a datagram with held fragments: its identification, the arrival time of the first one, and the
+-- fragments
 pub record Gathered : Type 0 where
   pub id : DatagramId
   pub since : ℕ
@@ -36,7 +38,8 @@ abbrev pub pieces_in : List Gathered → DatagramId → List Fragment
 pieces_in [] id = []
 pieces_in (g ∷ gs) id = if is_id g.id id then g.pieces else pieces_in gs id
 
--- the datagrams after the fragment joins those of its own; if there are none, its datagram is added last
+-- the datagrams after the fragment joins those of its own; if there are none, its datagram is added
+-- last
 abbrev pub with_piece : (now : ℕ) → Fragment → List Gathered → List Gathered
 with_piece now p [] = record { id = p.id; since = now; pieces = p ∷ [] } ∷ []
 with_piece now p (g ∷ gs) = if is_id g.id p.id then record g { pieces = p ∷ g.pieces } ∷ gs else g ∷ with_piece now p gs
@@ -57,8 +60,9 @@ after now p (dropped rule) gs = if forgets rule then of_others p.id gs else gs
 abbrev pub is_old : (time now : ℕ) → Gathered → Bool
 is_old time now g = nat_lt (g.since + time) now
 
--- The datagrams with held fragments, in order of their first fragments, each with the fragments held since it was last removed or completed. A datagram is
--- removed more than `time` seconds after its first fragment.
+-- The datagrams with held fragments, in order of their first fragments, each with the fragments
+-- held since it was last removed or completed. A datagram is removed more than `time` seconds after
+-- its first fragment.
 abbrev pub gathered : (time : ℕ) → List Call → List Gathered
 gathered time [] = []
 gathered time (expiry now ∷ cs) = filter (λ g. not (is_old time now g)) (gathered time cs)

@@ -1,4 +1,5 @@
--- The hash of a datagram's identification under a seed (this project's profile): it decides where an entry is looked up; no result depends on it.
+-- The hash of a datagram's identification under a seed (this project's profile): it decides where
+-- an entry is looked up; no result depends on it.
 use Rattle.std.specs.Prelude.{ℕ, ◌+◌, ◌*◌}
 use Rattle.reassembly.specs.declared.id.DatagramId.{DatagramId}
 use Rattle.linked_table.specs.Hashes.{hash_of_words}

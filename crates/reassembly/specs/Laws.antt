@@ -10,7 +10,8 @@ use Rattle.reassembly.specs.Calls.{Answer, held, done, dropped, Call, expiry, of
 use Rattle.reassembly.specs.Rows.{View, answer_at, dropped_by, holds_fragment, view_of, AreAnswered}
 use Rattle.wire_base.specs.declared.limits.TheConstants.{MAX_PAYLOAD}
 
--- the datagram of these fragments is made of them: its octets are theirs, and one of them is at offset 0
+-- the datagram of these fragments is made of them: its octets are theirs, and one of them is at
+-- offset 0
 pub record IsOfPieces (ps : List Fragment) : Type 0 where
   pub octets : IsMadeOf (datagram_octets ps) ps
   pub head : is_some (front_of ps) ≡ true
@@ -21,7 +22,8 @@ WholeIsItsPieces =
     (settings : PlainSettings) (cs : List Call) (p : Fragment) → AreAnswered settings cs → answer_at (view_of settings cs p) p ≡ done
     → IsOfPieces (p ∷ (view_of settings cs p).pieces)
 
--- the fragments of a datagram after one of its own arrived: one more if it is held, none if the datagram is completed or removed
+-- the fragments of a datagram after one of its own arrived: one more if it is held, none if the
+-- datagram is completed or removed
 abbrev pub own_after : Fragment → Answer → List Fragment → List Fragment
 own_after p held ps = p ∷ ps
 own_after p done ps = []
@@ -37,21 +39,22 @@ calls_on id (offer now p answer ∷ cs) = if is_id p.id id then offer now p answ
 abbrev pub is_late : (time now : ℕ) → List Call → DatagramId → Bool
 is_late time now cs id = list_any (λ g. is_id g.id id && is_old time now g) (gathered time cs)
 
--- What is held of a datagram depends on its own fragments, on the answer to each, and on time. Other datagrams affect these answers by F_MANY and F_ROOM alone.
+-- What is held for a datagram depends on its own fragments, on the answer to each, and on time.
+-- Other datagrams affect these answers by F_MANY and F_ROOM alone.
 pub record DatagramsAreApart : Type 0 where
   -- no identification is held twice
   pub once : (time : ℕ) (cs : List Call) → Pairwise (λ a b. is_id a.id b.id ≡ false) (gathered time cs)
-  -- a fragment changes what is held of its own datagram alone
+  -- a fragment changes what is held for its own datagram alone
   pub comes : (time now : ℕ) (p : Fragment) (answer : Answer) (cs : List Call) (id : DatagramId)
       → pieces_in (gathered time (offer now p answer ∷ cs)) id
       ≡ (if is_id p.id id then own_after p answer (pieces_in (gathered time cs) id) else pieces_in (gathered time cs) id)
   -- time removes a datagram by its own first fragment
   pub passes : (time now : ℕ) (cs : List Call) (id : DatagramId)
       → pieces_in (gathered time (expiry now ∷ cs)) id ≡ (if is_late time now cs id then [] else pieces_in (gathered time cs) id)
-  -- so, with the same answers, what is held of a datagram is what its own calls alone would leave
+  -- so, with the same answers, what is held for a datagram is what its own calls alone would leave
   pub alone : (time : ℕ) (cs : List Call) (id : DatagramId) → pieces_in (gathered time cs) id ≡ pieces_in (gathered time (calls_on id cs)) id
 
--- A fragment is dropped by the first rule on fragments, in the order of testing, that holds of it.
+-- A fragment is dropped by the first rule on fragments, in the order of testing, that holds for it.
 abbrev pub FirstRowDrops : Type 0
 FirstRowDrops = (v : View) (p : Fragment) → dropped_by v p ≡ find (holds_fragment v p) fragment_rows
 
@@ -67,7 +70,8 @@ AreSized [] = Unit {0}
 AreSized (expiry now ∷ cs) = AreSized cs
 AreSized (offer now p answer ∷ cs) = IsSized p × AreSized cs
 
--- the datagram of these fragments fits after a header of 20 octets, its length is that of its octets, and its fields and octets are sized
+-- the datagram of these fragments fits after a header of 20 octets, its length is that of its
+-- octets, and its fields and octets are sized
 pub record IsSizedWhole (ps : List Fragment) : Type 0 where
   pub tos : (whole_of ps).tos < 2 ^ 8
   pub ttl : (whole_of ps).ttl < 2 ^ 8

@@ -1,4 +1,5 @@
--- The fragments of one datagram, and the datagram that they make (RFC 791 sections 2.3 and 3.2). Lists of fragments have the newest at the head.
+-- The fragments of one datagram, and the datagram that they make (RFC 791 sections 2.3 and 3.2).
+-- Lists of fragments have the newest at the head.
 use Rattle.std.specs.Prelude.{◌≡◌, ℕ, ◌+◌, ◌*◌, ◌/◌, ◌==◌, ◌<◌, ◌≤◌, ◌&&◌, nat_le, nat_lt, max, Bool, true, false, not, List, [], ◌∷◌, length, map, take, drop, Option, Some, None, is_none, is_some, if◌then◌else◌}
 use Rattle.std.specs.List.{AllByRecursion, list_any, count_by, range_with_len}
 use Rattle.std.specs.Option.{option_or, unwrap_or}
@@ -9,7 +10,8 @@ use Rattle.reassembly.specs.declared.piece.Front.{Front}
 use Rattle.reassembly.specs.declared.piece.Whole.{Whole}
 use Rattle.wire_base.specs.declared.limits.TheConstants.{MAX_PAYLOAD}
 
--- a fragment: its identification, the offset of its octets, whether further ones follow, the fields that a complete datagram may take from it, and its octets
+-- a fragment: its identification, the offset of its octets, whether further ones follow, the fields
+-- that a complete datagram may take from it, and its octets
 pub record Fragment : Type 0 where
   pub id : DatagramId
   pub offset : ℕ
@@ -31,7 +33,8 @@ fragment_of p =
       octets = p.bytes.now;
     }
 
--- it is a fragment (further ones follow, or it is not the first), and its offset and length are possible in a packet
+-- it is a fragment (further ones follow, or it is not the first), and its offset and length are
+-- possible in a packet
 pub record IsPiece (p : Fragment) : Type 0 where
   pub part : p.more ≡ false → 0 < p.offset
   pub offset : p.offset ≤ 65528

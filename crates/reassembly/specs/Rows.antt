@@ -1,4 +1,5 @@
--- The rules on fragments, in the order of testing, and the answer to a fragment (this project's profile).
+-- The rules on fragments, in the order of testing, and the answer to a fragment (this project's
+-- profile).
 use Rattle.std.specs.Prelude.{◌≡◌, ℕ, ◌+◌, ◌-◌, ◌%◌, ◌==◌, ◌≤◌, ◌&&◌, ◌||◌, nat_lt, nat_le, Bool, true, false, not, List, [], ◌∷◌, ◌++◌, length, take, Option, Some, None, if◌then◌else◌}
 use Rattle.std.specs.Option.{option_or}
 use Rattle.norm_settings.specs.Settings.{PlainSettings}
@@ -11,8 +12,8 @@ use Rattle.reassembly.specs.Pieces.{Fragment, end_of, octet_of, total_of, reach,
 use Rattle.reassembly.specs.Calls.{Answer, held, done, dropped, Call, expiry, offer, Gathered, gathered, pieces_in, cells_in}
 use Rattle.wire_base.specs.declared.limits.TheConstants.{MAX_PAYLOAD}
 
--- What the rules read of the calls before a fragment: the fragments of its datagram, whether as many datagrams are held as may be, and the number of free
--- cells.
+-- What the rules read of the calls before a fragment: the fragments of its datagram, whether as
+-- many datagrams are held as may be, and the number of free cells.
 pub record View : Type 0 where
   pub pieces : List Fragment
   pub is_full : Bool
@@ -56,7 +57,8 @@ is_other (Some total) end = not (total == end)
 abbrev pub ends_otherwise : Option ℕ → (reach : ℕ) → Fragment → Bool
 ends_otherwise total reach p = is_past total (end_of p) || (not p.more && (is_other total (end_of p) || nat_lt (end_of p) reach))
 
--- F_END: it extends past the end of the last fragment; or it is a last fragment, and another one ends elsewhere or an octet is held at or past its end
+-- F_END: it extends past the end of the last fragment; or it is a last fragment, and another one
+-- ends elsewhere or an octet is held at or past its end
 abbrev pub f_end : List Fragment → Fragment → Bool
 f_end ps p = ends_otherwise (total_of ps) (reach ps) p
 
@@ -135,7 +137,8 @@ is_done held = false
 is_done done = true
 is_done (dropped rule) = false
 
--- whether the condition of a rule on fragments holds of a fragment; rules of other layers hold of none
+-- whether the condition of a rule on fragments applies to a fragment; rules of other layers apply
+-- to none
 abbrev pub holds_fragment : View → Fragment → Rule → Bool
 holds_fragment v p FDf = f_df p
 holds_fragment v p FEmpty = f_empty p
@@ -168,7 +171,8 @@ AreAnswered settings [] = Unit {0}
 AreAnswered settings (expiry now ∷ cs) = AreAnswered settings cs
 AreAnswered settings (offer now p answer ∷ cs) = (answer ≡ answer_at (view_of settings cs p) p) × AreAnswered settings cs
 
--- if a datagram is complete, the front of the buffer holds its octets; otherwise the buffer is unchanged
+-- if a datagram is complete, the front of the buffer holds its octets; otherwise the buffer is
+-- unchanged
 abbrev pub Carries : Offered → (old new : List ℕ) → List Fragment → Type 0
 Carries offers.Held old new ps = new ≡ old
 Carries (offers.Done whole) old new ps = take whole.len new ≡ datagram_octets ps

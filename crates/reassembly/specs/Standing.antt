@@ -10,7 +10,8 @@ use Rattle.reassembly.specs.Calls.{Gathered}
 use Rattle.reassembly.specs.Rows.{f_end, first_row, own_rows}
 use Rattle.wire_base.specs.declared.limits.TheConstants.{MAX_PAYLOAD}
 
--- the values kept of a datagram's fragments besides their octets; no octet is past the longest datagram, and the last fragment ends at the last octet
+-- the values kept of a datagram's fragments besides their octets; no octet is past the longest
+-- datagram, and the last fragment ends at the last octet
 pub record ProgressOf (v : Progress) (ps : List Fragment) : Type 0 where
   pub total_is : v.total ≡ total_of ps
   pub reach_is : v.reach ≡ reach ps
@@ -23,14 +24,15 @@ pub record ProgressOf (v : Progress) (ps : List Fragment) : Type 0 where
 abbrev pub Keeps : List Block → List Fragment → Type 0
 Keeps blocks ps = (offset : ℕ) → octet_at blocks offset ≡ octet_of ps offset
 
--- a fragment joined others: the chain has the octets of all, and if it contradicts none, the values kept are those of all
+-- a fragment joined others: the chain has the octets of all, and if it contradicts none, the values
+-- kept are those of all
 pub record IsJoined (ps : List Fragment) (p : Fragment) (old new : Progress) (blocks : List Block) : Type 0 where
   pub progress : ProgressOf old ps → first_row (own_rows p) ≡ None → f_end ps p ≡ false → ProgressOf new (p ∷ ps)
   pub octets : Keeps blocks (p ∷ ps)
   pub count : length blocks ≡ cells_of (p ∷ ps)
 
--- An entry represents a datagram: its identification, the time it began, the values kept of its fragments, the octets in the chain of its slot, and the number
--- of blocks that they take.
+-- An entry represents a datagram: its identification, the time it began, the values kept of its
+-- fragments, the octets in the chain of its slot, and the number of blocks that they take.
 pub record EntryStands (store : Store) (e : Entry DatagramId Progress) (g : Gathered) : Type 0 where
   pub id : e.key ≡ g.id
   pub since : e.value.since ≡ g.since
@@ -49,7 +51,8 @@ EachStands store (e ∷ es) (g ∷ gs) = EntryStands store e g × EachStands sto
 abbrev pub IsFree : List (Entry DatagramId Progress) → (chain : ℕ) → Type 0
 IsFree entries chain = AllByRecursion (λ e. e.slot.0 ≢ chain) entries
 
--- The entries and the store represent the datagrams, in order of first fragments; the chains of other slots are empty.
+-- The entries and the store represent the datagrams, in order of first fragments; the chains of
+-- other slots are empty.
 pub record HoldsFor (gs : List Gathered) (entries : List (Entry DatagramId Progress)) (store : Store) : Type 0 where
   pub each : EachStands store entries gs
   pub free : (chain : ℕ) → IsFree entries chain → chain_of store chain ≡ []

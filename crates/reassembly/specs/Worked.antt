@@ -1,5 +1,6 @@
--- Worked cases (this project's profile): fragments that overlap and agree complete a datagram; a clash removes it; each rule that drops a fragment; the header
--- of the first fragment; and time, counted from the first fragment.
+-- Worked cases (this project's profile). Fragments that overlap and agree complete a datagram; a
+-- clash removes it; each rule that drops a fragment. The header of the first fragment; and time,
+-- counted from the first fragment.
 use Rattle.std.specs.Prelude.{◌≡◌, ℕ, Bool, true, false, List, [], ◌∷◌, length, replicate, ◌++◌}
 use Rattle.rule_book.specs.declared.rule.Rule.TheVariants as rules
 use Rattle.norm_settings.specs.Settings.{PlainSettings, standard}
@@ -73,7 +74,8 @@ pub record WorkedRows : Type 0 where
   -- a last fragment that ends elsewhere than the one held, and a fragment past its end
   pub elsewhere : becomes usual (comes 0 (part 7 16 false eight) ∷ []) (part 7 8 false eight) ≡ offers.Drop rules.FEnd
   pub past_end : becomes usual (comes 0 (part 7 16 false eight) ∷ []) (part 7 24 true eight) ≡ offers.Drop rules.FEnd
-  -- a later fragment with DF, a fragment without octets, one that others follow and that is not a multiple of 8 octets, and one without a free cell
+  -- a later fragment with DF, a fragment without octets, one that others follow and that is not a
+  -- multiple of 8 octets, and one without a free cell
   pub not_to_be_split : becomes usual [] (record (part 7 8 true eight) { df = true }) ≡ offers.Drop rules.FDf
   pub nothing : becomes usual [] (part 7 8 false []) ≡ offers.Drop rules.FEmpty
   pub odd : becomes usual [] (part 7 0 true (replicate 7 97)) ≡ offers.Drop rules.FAlign
@@ -83,6 +85,7 @@ pub record WorkedRows : Type 0 where
   -- the header is that of the first fragment that arrived with offset 0
   pub head : becomes usual (comes 0 (record (part 7 0 true eight) { ttl = 9; tos = 4 }) ∷ comes 0 (record (part 7 0 true eight) { df = true }) ∷ []) (part 7 8 false eight)
       ≡ offers.Done (record { len = 16; tos = 0; ttl = 64; df = true })
-  -- time is counted from the first fragment: at second 30 its datagram is held, and at second 31 it is removed
+  -- time is counted from the first fragment: at second 30 its datagram is held, and at second 31 it
+  -- is removed
   pub in_time : length (gathered 30 (ran usual (passes 30 ∷ comes 20 (part 7 8 true eight) ∷ comes 0 (part 7 0 true eight) ∷ []))) ≡ 1
   pub out_of_time : length (gathered 30 (ran usual (passes 31 ∷ comes 20 (part 7 8 true eight) ∷ comes 0 (part 7 0 true eight) ∷ []))) ≡ 0

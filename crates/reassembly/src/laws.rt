@@ -8,13 +8,13 @@ pub fn whole_is_its_pieces()
     ensures { WholeIsItsPieces }
 {}
 
-/// Proves that what is held of a datagram depends on its own fragments, on the answer to each, and
+/// Proves that what is held for a datagram depends on its own fragments, on the answer to each, and
 /// on time. Other datagrams affect these answers by F_MANY and F_ROOM alone.
 pub fn datagrams_are_apart()
     ensures { DatagramsAreApart }
 {}
 
-/// Proves that a fragment is dropped by the first rule on fragments that holds of it.
+/// Proves that a fragment is dropped by the first rule on fragments that applies to it.
 pub fn first_row_drops()
     ensures { FirstRowDrops }
 {}

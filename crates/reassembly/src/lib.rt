@@ -2,7 +2,7 @@
 //!
 //! Proved over every list of calls of `Assembly`: each fragment is held, completes its datagram, or
 //! is dropped under the first rule that holds. A completed datagram is made of its fragments, each
-//! at its offset, and has the header fields of the first fragment at offset 0. What is held of a
+//! at its offset, and has the header fields of the first fragment at offset 0. What is held for a
 //! datagram depends on its own fragments, on what became of each, and on time; other datagrams
 //! affect it by F_MANY and F_ROOM alone. `expire` forgets exactly the datagrams that are too old.
 //! No more datagrams and cells are held than the settings allow. Memory is allocated at opening

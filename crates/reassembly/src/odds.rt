@@ -1,4 +1,4 @@
-//! A fragment that contradicts what is held of its datagram.
+//! A fragment that contradicts what is held for its datagram.
 ghost use Rattle.std.specs.Prelude.{◌≡◌, ◌<◌, ◌≤◌, List, length, true, false, IfSome, IfNone};
 ghost use Rattle.retain_store.specs.Maps.{chain_of};
 ghost use Rattle.reassembly.specs.Pieces.{Fragment, fragment_of, IsPiece};

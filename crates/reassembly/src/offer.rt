@@ -152,7 +152,8 @@ impl Assembly {
     }
 
     /// Takes a fragment: it is held, it completes its datagram, whose octets are then at the front
-    /// of the buffer, or a rule drops it.
+    /// of the buffer, or a rule drops it. Rules 15 to 22. F_END and F_CLASH forget the datagram;
+    /// under another rule nothing changes.
     #[inline(always)]
     pub fn offer(&mut self, now: u32, piece: &Piece<'_>, buf: &mut [u8]) -> Offered
         requires piece { IsPiece (fragment_of piece.now) }

@@ -44,18 +44,6 @@ fn front_by(piece: &Piece<'_>) -> Option<Front>
     }
 }
 
-fn either_total(first: Option<u32>, second: Option<u32>) -> Option<u32>
-    ensures { result ≡ option_or first second }
-{
-    if first.is_some() { first } else { second }
-}
-
-fn either_front(first: Option<Front>, second: Option<Front>) -> Option<Front>
-    ensures { result ≡ option_or first second }
-{
-    if first.is_some() { first } else { second }
-}
-
 // Returns whether the total is known and below this end.
 fn is_past(total: Option<u32>, end: u32) -> bool
     ensures { result ≡ is_past total end }
@@ -101,8 +89,8 @@ impl Progress {
         ensures filled { result.filled ≡ self.now.filled + fresh }
         ensures front { let p = fragment_of piece.now in result.front ≡ option_or self.now.front (if p.offset == 0 then Some (record { tos = p.tos; ttl = p.ttl; df = p.df }) else None) }
     {
-        let total = either_total(self.total, total_by(piece));
-        let front = either_front(self.front, front_by(piece));
+        let total = self.total.or(total_by(piece));
+        let front = self.front.or(front_by(piece));
         Progress {
             since: self.since,
             total,

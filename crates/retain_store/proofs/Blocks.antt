@@ -1,4 +1,5 @@
--- The blocks of a chain: the octets at a block number, a chain with a cell for a block, and what contracts see of a store.
+-- The blocks of a chain: the octets at a block number, a chain with a cell for a block, and what
+-- contracts see of a store.
 use Rattle.std.proofs.Common.{◌≡◌, ◌≢◌, ℕ, ◌<◌, ◌==◌, true, false, List, [], ◌∷◌, ◌++◌, Option, Some, None, refl, sym, ap, subst, ◌∙◌, arith, ne_eqb, eq-eqb, if◌then◌else◌, ◌+◌, ◌-◌, ◌/◌, ◌%◌, inl, inr, length, get_or, replicate, is_some, length-append, zero, suc, map, get_or-set_other}
 use Rattle.std.specs.List.{list_any, All}
 use Rattle.std.proofs.lemmas.Bool.{cases_eq, cases_lt}

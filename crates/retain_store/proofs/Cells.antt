@@ -1,4 +1,5 @@
--- The cells of a chain: a walk along them, the last of them, behind which there is no octet, and writes to one of them.
+-- The cells of a chain: a walk along them, the last of them, after which there is no octet, and
+-- writes to one of them.
 use Rattle.std.proofs.Common.{◌≡◌, ℕ, ◌+◌, ◌<◌, ◌≤◌, ◌≢◌, List, [], ◌∷◌, ◌++◌, length, false, Option, Some, None, is_some, refl, sym, ap, ◌∙◌, arith, length-append, append_assoc, ◌-◌, ◌/◌, ◌%◌, inl, inr, true, get_or, length-set, set}
 use Rattle.std.proofs.lemmas.Bool.{cases_eq, cases_lt}
 use Rattle.std.proofs.lemmas.List.{get_or-set_same, set-get_or, set-set}
@@ -158,7 +159,7 @@ module _ {pool : Lists} {c number : ℕ} {name : CellId} (at : StandsUpTo pool c
       IsWalk (chain_at pool c) number (Some name) next 0
   up_to_walk other next_is = from_cell among (omega (arith, at.up_to)) next_is
 
--- The end of a chain: no offset behind its last octet has one.
+-- The end of a chain: no offset after its last octet has one.
 
 -- no offset from here on has an octet
 within_by : (blocks : List Block) (from : ℕ) → ((offset : ℕ) → from ≤ offset → octet_at blocks offset ≡ None) → IsWithin blocks from

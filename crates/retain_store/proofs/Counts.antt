@@ -120,7 +120,8 @@ each p q a (suc n) others none zero lt = ap p (omega arith) ∙ (and_parts (p a)
 each p q a (suc n) others none (suc i) lt =
     ap p (omega arith) ∙ each p q (a + 1) n others (and_parts (p a) (not (list_any q (range_with_len (a + 1) n))) (parted p q a n others none)).1 i (omega arith)
 
--- Sums over a list whose elements have a chain each: they are sums over all chains, if the other chains are empty.
+-- Sums over a list whose elements have a chain each: they are sums over all chains, if the other
+-- chains are empty.
 
 -- the blocks of a chain
 abbrev pub blocks_at : List (List Block) → ℕ → List Block
@@ -143,7 +144,7 @@ sum_map f g [] = refl
 sum_map f g (x ∷ xs) = omega (arith, sum_by-cons f (g x) (map g xs), sum_by-cons (λ y. f (g y)) x xs, sum_map f g xs)
 
 module _ {X : Type 0} (chain : X → ℕ) where
-  -- each element has another chain than each later one
+  -- no two elements have the same chain
   abbrev pub AreApart : List X → Type 0
   AreApart [] = Unit {0}
   AreApart (x ∷ xs) = AllByRecursion (λ y. chain x ≢ chain y) xs × AreApart xs

@@ -1,4 +1,5 @@
--- The front of a chain: the chain without its first cell, and with a first block that has lost octets.
+-- The front of a chain: the chain without its first cell, and with a first block that has lost
+-- octets.
 use Rattle.std.proofs.Common.{◌≡◌, ◌≢◌, ℕ, ◌+◌, ◌*◌, ◌<◌, ◌≤◌, ◌/◌, ◌%◌, inl, inr, nat_lt, Bool, true, false, List, [], ◌∷◌, ◌++◌, length, get_or, Option, Some, None, refl, sym, ap, subst, ◌∙◌, arith, lt-ltb, le-ltb, ltb-true, ltb-false, ◌-◌, ◌↔◌, IsTrue, min, if◌then◌else◌, drop, replicate, IsNone, is_some, length-append, length-drop}
 use Rattle.std.proofs.lemmas.Bool.{cases_lt, cases_eq, cases_Bool, or_parts}
 use Rattle.std.specs.List.{All, list_any}
@@ -53,7 +54,8 @@ none_before [] number n rises begins lt = refl
 none_before (x ∷ xs) number n rises begins lt =
     none_above n (x ∷ xs) rises (let above = ltb-false x.block number begins in omega arith)
 
--- a cell above this number stays in the chain if the first cell is removed and is not above the number
+-- a cell above this number stays in the chain if the first cell is removed and is not above the
+-- number
 among_behind : (b : Held) (rest : List Held) (number : ℕ) (name : CellId) (before : List Held) (x : Held) (after : List Held) →
     b.block ≤ number → number < x.block → x.id ≡ name → b ∷ rest ≡ before ++ x ∷ after → IsAmongAbove rest number name
 among_behind b rest number name [] x after le above named splits =
@@ -171,7 +173,8 @@ got_none octets i all = elim (cases_lt i (length octets)) [
   | inr le ↦ get_or_past octets i None le
 ]
 
--- octets below an offset are removed if its block has lost those below and no block before it is left
+-- octets below an offset are removed if its block has lost those below and no block before it is
+-- left
 pub forgets_in_block : (old new : List Block) (at : ℕ) (octets : List (Option ℕ)) →
     ((n : ℕ) → at / 256 ≢ n → block_at new n ≡ block_at old n) →
     ((n : ℕ) → n < at / 256 → block_at old n ≡ []) → block_at old (at / 256) ≡ octets →
@@ -245,7 +248,8 @@ near_before x rest number (Some name) above = record {
   above = above.above;
 }
 
--- the first cell has the block of an offset and lost the octets below it; `none_left` is true if it has no other
+-- the first cell has the block of an offset and lost the octets below it; `none_left` is true if it
+-- has no other
 pub record Clears (old mid : Lists) (c at : ℕ) (none_left : Bool) : Type 0 where
   pub cell : Held
   pub rest : List Held

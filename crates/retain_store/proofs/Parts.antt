@@ -1,4 +1,5 @@
--- The parts of a segment: their octets, from those of their cells, and what holds of each part holds of the segment.
+-- The parts of a segment: their octets, from those of their cells, and what holds for each part
+-- holds for the segment.
 use Rattle.std.proofs.Common.{◌≡◌, ℕ, ◌+◌, ◌-◌, ◌<◌, ◌≤◌, ◌↔◌, ◌||◌, Bool, true, false, List, length, get_or, Some, refl, sym, ap, subst₂, ◌∙◌, arith, inl, inr, ◌/◌, ◌%◌, IsTrue, Option, None, is_some, is_none, IsSome, ap₂, subst, unwrap_or}
 use Rattle.std.specs.List.{between}
 use Rattle.std.proofs.lemmas.Bool.{cases_lt, or_parts, or_from}
@@ -14,7 +15,7 @@ use Rattle.retain_store.proofs.Cells.{stands}
 use Rattle.retain_store.proofs.Blocks.{found_in, missing_at}
 use Rattle.retain_store.proofs.Counts.{all_counted, none_counted, count_agree, count_most, parts}
 
--- What holds of the parts of a segment, and of all of it.
+-- What holds for the parts of a segment holds for all of it.
 
 module _ (blocks : List Block) (from : ℕ) where
   -- an octet does not differ from the one that is kept
@@ -84,7 +85,7 @@ module _ (blocks : List Block) (from : ℕ) where
       pub left_then : (i : ℕ) → done + k ≤ i → get_or written i 0 ≡ get_or start i 0
       left_then i le = put_behind done k bytes piece size within 0 i le ∙ left i (omega arith)
 
-      -- the octets written back are those that were there
+      -- the octets written back are those that it had
       same_back : put_mid done k bytes (between done (done + k) bytes) ≡ bytes
       same_back =
           let part = length-between bytes done (done + k) within in
@@ -231,7 +232,7 @@ module _ (pool : Lists) (c from : ℕ) {name : CellId} (at : ℕ) (at_is : at �
         (λ kept. here.1 (λ i lt. sym (piece_read i (omega arith)) ∙ kept i lt)),
       )
 
--- what holds of one part and of the next holds of both
+-- what holds for one part and for the next holds for both
 pub covers_then : (blocks : List Block) (from m n : ℕ) → Covers blocks from m → Covers blocks (from + m) n → Covers blocks from (m + n)
 covers_then blocks from m n first second i lt = elim (cases_lt i m) [
   | inl low ↦ first i low

@@ -61,6 +61,13 @@ first_held blocks from len some none =
     go true e = refl
     go false e = absurd (omega arith)
 
+-- if all offsets are in one block, which has an octet, none is missing
+pub one_held : (blocks : List Block) (from len : ℕ) → 0 < len → from % 256 + len ≤ 256 → holds blocks (from / 256) ≡ true →
+    missing blocks from len ≡ 0
+one_held blocks from len some fits held =
+    let none : further from len ≡ 0 = omega arith in
+    missing_first blocks from len some ∙ (rw (held, none) refl)
+
 -- one part further
 pub missing_step : (old new : List Block) (from len count : ℕ) → 0 < count → count ≤ len → from % 256 + count ≤ 256 →
     (count ≡ len) ⊎ (from % 256 + count ≡ 256) →
@@ -124,7 +131,8 @@ missing_are blocks octets from len map keeps =
     sum_agree (λ n. cond (not (holds blocks n)) 1 0) (λ n. cond (not (has_octet octets n)) 1 0) (touched from len)
     (all_of _ (touched from len) (λ n. ap (λ b. cond {A = ℕ} (not b) 1 0) (holds_are blocks octets n map keeps)))
 
--- the number of blocks is the number of those with one of these octets, if all octets are in the first `n` blocks
+-- the number of blocks is the number of those with one of these octets, if all octets are in the
+-- first `n` blocks
 pub count_is : (blocks : List Block) (octets : ℕ → Option ℕ) (n : ℕ) → IsMap blocks → ((offset : ℕ) → octet_at blocks offset ≡ octets offset)
     → ((offset : ℕ) → is_some (octets offset) ≡ true → offset < 256 * n)
     → ((m : ℕ) → IsWithin blocks (256 * m) → length blocks ≡ count_by (holds blocks) (range_with_len 0 m)) → length blocks ≡ count_by (has_octet octets) (range_with_len 0 n)

@@ -166,6 +166,21 @@ or_some : (a b : Option ℕ) → IsSome a → option_or a b ≡ a
 or_some None b some = cc
 or_some (Some x) b some = refl
 
+-- where each offset has an octet, placing adds none
+pub places_nothing : (blocks : List Block) (from : ℕ) (octets : List ℕ) →
+    ((i : ℕ) → i < length octets → IsSome (octet_at blocks (from + i))) → Places blocks blocks from octets
+places_nothing blocks from octets covers offset =
+    let here = octet_at blocks offset in
+    elim (cases_lt offset from) [
+      | inl lt ↦ sym (ap (option_or here) (octet_before from octets offset lt) ∙ or_none here)
+      | inr le ↦ elim (cases_lt offset (from + length octets)) [
+        | inl lt ↦
+            let place : from + (offset - from) ≡ offset = omega arith in
+            sym (or_some here (octet_in from octets offset) (subst (λ k. IsSome (octet_at blocks k)) place (covers (offset - from) (omega arith))))
+        | inr past ↦ sym (ap (option_or here) (octet_past from octets offset past) ∙ or_none here)
+      ]
+    ]
+
 -- if no offset has an octet, all octets of the run are added
 pub with_blank : (octets : List (Option ℕ)) (at : ℕ) (piece : List ℕ) → at + length piece ≤ length octets → IsBlank at (length piece) octets →
     with_run at piece octets ≡ with_octets octets at piece

@@ -11,7 +11,8 @@ use Rattle.retain_store.specs.Seats.{blocks_in, IsAt, IsKept, IsNear}
 abbrev pub with_octet : List (Option ℕ) → ℕ → ℕ → List (Option ℕ)
 with_octet octets at octet = slice_set octets at (option_or (slice_index_or octets at None) (Some octet))
 
--- The octets of a block with those of `piece` added from the position `at` on, at each position that has none.
+-- The octets of a block with those of `piece` added from the position `at` on, at each position
+-- that has none.
 abbrev pub with_octets : List (Option ℕ) → ℕ → List ℕ → List (Option ℕ)
 with_octets octets at piece =
     map (λ i. option_or (slice_index_or octets i None) (octet_in at piece i)) (range_with_len 0 (length octets))
@@ -47,7 +48,8 @@ IsAbove cells number (Some name) = IsAmongAbove cells number name
 abbrev pub KeepsAbove : List Held → List Held → ℕ → Type 0
 KeepsAbove old new number = (near : Option CellId) → IsAbove old number near → IsAbove new number near
 
--- The octets below an offset were removed, and cells above this block number are still in the chain.
+-- The octets below an offset were removed, and cells above this block number are still in the
+-- chain.
 pub record Forgets (old new : Lists) (chain number at : ℕ) : Type 0 where
   pub kept : IsKept (chain_at new chain)
   pub changed : IsChanged old new chain

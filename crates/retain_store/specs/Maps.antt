@@ -1,14 +1,17 @@
--- What contracts see of a store (this project's profile): per chain a finite map from offset to octet, in blocks of 256.
+-- What contracts see of a store (this project's profile): per chain a finite map from offset to
+-- octet, in blocks of 256.
 use Rattle.std.specs.Prelude.{◌≡◌, ℕ, ◌+◌, ◌-◌, ◌*◌, ◌/◌, ◌%◌, ◌<◌, ◌==◌, nat_lt, Bool, not, true, List, [], ◌∷◌, length, Option, None, is_none, is_some, IsSome, slice_get, slice_index, slice_index_or, slice_set, if◌then◌else◌}
 use Rattle.std.specs.List.{All, list_any, count_by, range_with_len}
 use Rattle.std.specs.Option.{option_or, unwrap_or}
 
--- A block: its number (its offsets divided by 256), and an octet or nothing at each of its 256 positions.
+-- A block: its number (its offsets divided by 256), and an octet or nothing at each of its 256
+-- positions.
 pub record Block : Type 0 where
   pub number : ℕ
   pub octets : List (Option ℕ)
 
--- The blocks of each chain, in order; the number of free cells; the number of cells at opening. Each block takes one cell.
+-- The blocks of each chain, in order; the number of free cells; the number of cells at opening.
+-- Each block takes one cell.
 pub record Store : Type 0 where
   pub chains : List (List Block)
   pub free : ℕ
@@ -35,7 +38,8 @@ octet_at blocks offset = slice_index_or (block_at blocks (offset / 256)) (offset
 abbrev pub holds : List Block → ℕ → Bool
 holds blocks number = list_any is_some (block_at blocks number)
 
--- One of the 256 offsets of the block with this number has an octet, where `octets` gives the octet at each offset.
+-- One of the 256 offsets of the block with this number has an octet, where `octets` gives the octet
+-- at each offset.
 abbrev pub has_octet : (octets : ℕ → Option ℕ) → (number : ℕ) → Bool
 has_octet octets number = list_any (λ offset. is_some (octets offset)) (range_with_len (256 * number) 256)
 
@@ -43,7 +47,8 @@ has_octet octets number = list_any (λ offset. is_some (octets offset)) (range_w
 abbrev pub IsWithin : List Block → ℕ → Type 0
 IsWithin blocks end = (offset : ℕ) → IsSome (octet_at blocks offset) → offset < end
 
--- The numbers of the blocks touched: from that of the first of the `len` offsets to that of the last.
+-- The numbers of the blocks touched: from that of the first of the `len` offsets to that of the
+-- last.
 abbrev pub touched : ℕ → ℕ → List ℕ
 touched from len =
     if len == 0 then [] else range_with_len (from / 256) ((from + len - 1) / 256 + 1 - from / 256)
@@ -90,12 +95,17 @@ pub record ChangesOnly (old new : Store) (chain : ℕ) : Type 0 where
 abbrev pub Covers : List Block → ℕ → ℕ → Type 0
 Covers blocks from len = (i : ℕ) → i < len → IsSome (octet_at blocks (from + i))
 
+-- Each of the `len` offsets from `from` on has an octet, so that octets placed there take no cell.
+pub record IsWhole (blocks : List Block) (from len : ℕ) : Type 0 where
+  pub covers : Covers blocks from len
+  pub none_missing : missing blocks from len ≡ 0
+
 -- None of these octets differs from the octet kept at its offset.
 abbrev pub Agrees : List Block → ℕ → List ℕ → Type 0
 Agrees blocks from octets =
     (i : ℕ) → i < length octets → unwrap_or (octet_at blocks (from + i)) (slice_index octets i) ≡ slice_index octets i
 
--- An octet is added at each offset that had none; octets that were there first stay.
+-- An octet is added at each offset that had none; octets that were first stay.
 abbrev pub Places : List Block → List Block → ℕ → List ℕ → Type 0
 Places old new from octets =
     (offset : ℕ) → octet_at new offset ≡ option_or (octet_at old offset) (octet_in from octets offset)

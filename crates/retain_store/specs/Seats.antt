@@ -1,4 +1,5 @@
--- How a store is represented in a pool of cells (this project's profile): a block is a cell, a hint is a cell at which a walk may start.
+-- How a store is represented in a pool of cells (this project's profile): a block is a cell, a hint
+-- is a cell at which a walk may start.
 use Rattle.std.specs.Prelude.{◌≡◌, ℕ, ◌<◌, ◌≤◌, List, [], ◌∷◌, ◌++◌, length, map, Option, Some, None, slice_index_or}
 use Rattle.cell_pool.specs.declared.cells.CellId.{CellId}
 use Rattle.cell_pool.specs.Lists.{Lists, Held, IsRising, HasPlaceFor, chain_at, first_id, IsPlace, EndsBelow}
@@ -62,7 +63,8 @@ abbrev pub IsSeat : List Held → ℕ → Seat → Type 0
 IsSeat cells number (Cell name) = IsCellOf cells number name
 IsSeat cells number (After link) = HasPlaceFor cells link number
 
--- A walk has passed at least `passed` cells, the last of them `after`, all below this block number; `next` is the first cell left.
+-- A walk has passed at least `passed` cells, the last of them `after`, all below this block number;
+-- `next` is the first cell left.
 pub record IsWalk (cells : List Held) (number : ℕ) (after next : Option CellId) (passed : ℕ) : Type 0 where
   pub before : List Held
   pub rest : List Held
@@ -71,7 +73,8 @@ pub record IsWalk (cells : List Held) (number : ℕ) (after next : Option CellId
   pub next_is : next ≡ first_id rest
   pub count : passed ≤ length before
 
--- Each cell of a chain has an octet, block numbers rise, and each chain has a hint, which is a cell of it or none.
+-- Each cell of a chain has an octet, block numbers rise, and each chain has a hint, which is a cell
+-- of it or none.
 pub record IsSound (pool : Lists) (hints : List (Option CellId)) : Type 0 where
   pub number : length hints ≡ length pool.chains
   pub kept : (c : ℕ) → c < length pool.chains → IsKept (chain_at pool c)

@@ -1,8 +1,8 @@
 //! Reads of one part of a segment, whose offsets are all in one block.
 ghost use Rattle.std.specs.Prelude.{◌≡◌, ℕ, ◌+◌, ◌-◌, ◌<◌, ◌≤◌, ◌/◌, ◌%◌, ◌^◌, ◌↔◌, Some, false, length, slice_index, IsTrue};
 ghost use Rattle.cell_pool.specs.Lists.{chain_at, IsRising};
-ghost use Rattle.retain_store.specs.Maps.{octet_at, Agrees, Covers, Settles};
-ghost use Rattle.retain_store.specs.Seats.{blocks_in, IsCellOf, IsNear};
+ghost use Rattle.retain_store.specs.Maps.{octet_at, Agrees, Covers, IsWhole, Settles};
+ghost use Rattle.retain_store.specs.Seats.{blocks_in, IsCellOf, IsKept, IsNear};
 
 use crate::each::{agrees_each, settle_each};
 use crate::seat::{Seat, place_of, seek};
@@ -79,6 +79,48 @@ pub(crate) fn agrees_piece(
     match seek(pool, chain, near, from / 256) {
         Seat::Cell(cell) => (agrees_in(pool, chain, cell, from, bytes), Some(cell)),
         Seat::After(after) => (true, after),
+    }
+}
+
+// Returns true only if all octets are in this block, and each is the one kept at its offset.
+fn repeats_in(pool: &Pool, chain: ChainId, cell: CellId, from: u64, bytes: &[u8]) -> bool
+    requires chain_in_range { chain.0 < length pool.now.chains }
+    requires cell { IsCellOf (chain_at pool.now chain.0) (from / 256) cell }
+    requires kept { IsKept (chain_at pool.now chain.0) }
+    requires some { 0 < length bytes.now }
+    ensures whole { IsTrue result → IsWhole (blocks_in pool.now chain.0) from (length bytes.now) }
+    ensures agrees { IsTrue result → Agrees (blocks_in pool.now chain.0) from bytes.now }
+{
+    let at = place_of(from);
+    if bytes.len() > 256 - usize::from(at) {
+        return false;
+    }
+    if !pool.is_covered(cell, at, bytes.len()) {
+        return false;
+    }
+    pool.has_run(cell, at, bytes)
+}
+
+/// Returns true only if all octets are in one block, and each is the one kept at its offset; and a
+/// cell at which the next walk may start.
+pub(crate) fn repeats_piece(
+    pool: &Pool,
+    chain: ChainId,
+    near: Option<CellId>,
+    from: u64,
+    bytes: &[u8],
+) -> (bool, Option<CellId>)
+    requires chain_in_range { chain.0 < length pool.now.chains }
+    requires near_in_chain { IsNear (chain_at pool.now chain.0) near }
+    requires kept { IsKept (chain_at pool.now chain.0) }
+    requires some { 0 < length bytes.now }
+    ensures whole { IsTrue result.0 → IsWhole (blocks_in pool.now chain.0) from (length bytes.now) }
+    ensures agrees { IsTrue result.0 → Agrees (blocks_in pool.now chain.0) from bytes.now }
+    ensures near { IsNear (chain_at pool.now chain.0) result.1 }
+{
+    match seek(pool, chain, near, from / 256) {
+        Seat::Cell(cell) => (repeats_in(pool, chain, cell, from, bytes), Some(cell)),
+        Seat::After(after) => (false, after),
     }
 }
 

@@ -17,9 +17,10 @@ pub(crate) enum Seat {
 // blocks after it.
 const CLOSE: u64 = 16;
 
-/// Finds the seat of a block: at or after `near` if that is its seat. Otherwise a walk starts at
-/// `near` or at the first cell if it is less than 16 blocks before, otherwise at a landmark of the
-/// pool, or at the front if no landmark is before the block.
+/// Finds the position of a block: at `near`, or directly after it if it belongs there. Otherwise a
+/// walk
+/// starts at `near` or at the first cell if it is less than 16 blocks before. If neither is, the
+/// walk starts at a landmark of the pool, or at the front if no landmark is before the block.
 #[inline(always)]
 pub(crate) fn seek(pool: &Pool, chain: ChainId, near: Option<CellId>, block: u64) -> Seat
     requires chain_in_range { chain.0 < length pool.now.chains }
@@ -44,7 +45,8 @@ pub(crate) fn seek(pool: &Pool, chain: ChainId, near: Option<CellId>, block: u64
     seek_apart(pool, chain, block)
 }
 
-// Finds the seat of a block 16 or more blocks after the cell `near`; `next` is the cell after `near`.
+// Finds the position of a block 16 or more blocks after the cell `near`; `next` is the cell after
+// `near`.
 #[inline(never)]
 fn seek_behind(pool: &Pool, chain: ChainId, near: CellId, next: CellId, block: u64) -> Seat
     requires chain_in_range { chain.0 < length pool.now.chains }
@@ -57,24 +59,7 @@ fn seek_behind(pool: &Pool, chain: ChainId, near: CellId, next: CellId, block: u
     seek_apart(pool, chain, block)
 }
 
-/// Returns the cell of a block, or the one before it: a cell at which the next walk may start.
-pub(crate) fn nearest(
-    pool: &Pool,
-    chain: ChainId,
-    near: Option<CellId>,
-    block: u64,
-) -> Option<CellId>
-    requires chain_in_range { chain.0 < length pool.now.chains }
-    requires near_in_chain { IsNear (chain_at pool.now chain.0) near }
-    ensures { IsNear (chain_at pool.now chain.0) result }
-{
-    match seek(pool, chain, near, block) {
-        Seat::Cell(cell) => Some(cell),
-        Seat::After(after) => after,
-    }
-}
-
-// Finds the seat of a block without a cell from which to start.
+// Finds the position of a block without a cell from which to start.
 #[inline]
 fn seek_apart(pool: &Pool, chain: ChainId, block: u64) -> Seat
     requires { chain.0 < length pool.now.chains }
@@ -86,8 +71,8 @@ fn seek_apart(pool: &Pool, chain: ChainId, block: u64) -> Seat
     }
 }
 
-// Finds the seat of a block from the first cell, `front`, if its block is less than 16 blocks before,
-// otherwise from a landmark, or from the front if no landmark is before the block.
+// Finds the position of a block from the first cell, `front`, if its block is less than 16 blocks
+// before, otherwise from a landmark, or from the front if no landmark is before the block.
 #[inline(never)]
 fn seek_far(pool: &Pool, chain: ChainId, front: CellId, block: u64) -> Seat
     requires chain_in_range { chain.0 < length pool.now.chains }

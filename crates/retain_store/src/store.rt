@@ -1,23 +1,34 @@
 //! The store of octets by chain and offset.
 ghost use Rattle.std.specs.Prelude.{◌≡◌, ℕ, ◌+◌, ◌-◌, ◌*◌, ◌<◌, ◌≤◌, ◌^◌, ◌↔◌, [], Some, false, length, replicate, slice_index, IfOk, IsTrue};
 ghost use Rattle.std.specs.List.{count_by, range_with_len, sum_by};
-ghost use Rattle.retain_store.specs.Maps.{chain_of, has_octet, holds, octet_at, missing, fresh, Agrees, ChangesOnly, Covers, ForgetsBelow, IsMap, IsWithin, Places, Settles};
+ghost use Rattle.retain_store.specs.Maps.{chain_of, has_octet, holds, octet_at, missing, fresh, Agrees, ChangesOnly, Covers, ForgetsBelow, IsMap, IsWhole, IsWithin, Places, Settles};
 
 use crate::each::count_each;
 use crate::forgets::{forget_before, forget_chain};
 use crate::reads::{agrees_all, blocks_touched, copy, count_missing, covers_all, settle_all};
-use crate::seat::{ends_before, nearest};
+use crate::runs::repeats_piece;
+use crate::seat::ends_before;
 use crate::writes::place_all;
 use cell_pool::{CellId, ChainId, Pool};
 use edge_io::NoMemory;
 use std::alloc::Global;
 use std::marker::Model;
 
-/// Octets by chain and offset, kept until they are removed.
+/// What a look at the block of a segment's first octet finds.
+#[derive(Clone, Copy)]
+pub struct Found {
+    /// True only if no offset from the first on has an octet.
+    pub ends: bool,
+    /// True only if each octet is the one kept at its offset. It is false of octets in two blocks.
+    pub repeats: bool,
+}
+
+/// Octets by chain and offset, kept until they are removed. A block is the 256 offsets from a
+/// multiple of 256 on; it takes a cell if one of them has an octet.
 #[derive(Drop)]
 pub struct Retain {
     pool: Pool,
-    // For each chain, the cell used last or found by `aim`, where the next walk starts, or none.
+    // For each chain, the cell used last or found by `look`, where the next walk starts, or none.
     hints: Vec<Option<CellId>>,
 }
 
@@ -133,20 +144,54 @@ impl Retain {
         fresh
     }
 
-    /// Sets the hint of the chain to the block of an offset, or to the one before it, so that the
-    /// calls that follow start there. Returns true only if no offset from `at` on has an octet, and
-    /// then sets no hint; false says nothing.
-    pub fn aim(&mut self, chain: ChainId, at: u64) -> bool
-        requires { chain.0 < length self.old.chains }
+    /// Adds the octets at offsets that have none, and returns their number. If `whole`, each offset
+    /// has one, and nothing is done.
+    #[inline(always)]
+    pub fn place_known(&mut self, chain: ChainId, from: u64, bytes: &[u8], whole: bool) -> usize
+        requires chain_in_range { chain.0 < length self.old.chains }
+        requires offsets { from + length bytes.now ≤ 2 ^ 64 - 1 }
+        requires room { missing (chain_of self.old chain.0) from (length bytes.now) ≤ self.old.free }
+        requires whole { IsTrue whole → IsWhole (chain_of self.old chain.0) from (length bytes.now) }
+        ensures octets { Places (chain_of self.old chain.0) (chain_of self.new chain.0) from bytes.now }
+        ensures fresh { result ≡ fresh (chain_of self.old chain.0) from (length bytes.now) }
+        ensures most { result ≤ length bytes.now }
+        ensures free { self.new.free + missing (chain_of self.old chain.0) from (length bytes.now) ≡ self.old.free }
+        ensures changed { ChangesOnly self.old self.new chain.0 }
+        ensures map { IsMap (chain_of self.new chain.0) }
+        ensures held { (n : ℕ) → IsWithin (chain_of self.new chain.0) (256 * n) →
+            length (chain_of self.new chain.0) ≡ count_by (holds (chain_of self.new chain.0)) (range_with_len 0 n) }
+    {
+        if whole {
+            let _held = self.held(chain);
+            return 0;
+        }
+        self.place_counting(chain, from, bytes)
+    }
+
+    /// Looks at the block of a segment's first octet, and sets the hint of the chain to it or to
+    /// the one before it, so that the calls that follow start there.
+    pub fn look(&mut self, chain: ChainId, from: u64, bytes: &[u8]) -> Found
+        requires chain_in_range { chain.0 < length self.old.chains }
+        requires offsets { from + length bytes.now ≤ 2 ^ 64 - 1 }
+        requires some { 0 < length bytes.now }
         ensures same { self.new ≡ self.old }
-        ensures ends { IsTrue result → IsWithin (chain_of self.old chain.0) at }
+        ensures ends { IsTrue result.ends → IsWithin (chain_of self.old chain.0) from }
+        ensures whole { IsTrue result.repeats → IsWhole (chain_of self.old chain.0) from (length bytes.now) }
+        ensures agrees { IsTrue result.repeats → Agrees (chain_of self.old chain.0) from bytes.now }
     {
         let near = self.hints[chain.0 as usize];
-        if ends_before(&self.pool, chain, near, at) {
-            return true;
+        if ends_before(&self.pool, chain, near, from) {
+            return Found {
+                ends: true,
+                repeats: false,
+            };
         }
-        self.hints[chain.0 as usize] = nearest(&self.pool, chain, near, at / 256);
-        false
+        let (repeats, near) = repeats_piece(&self.pool, chain, near, from, bytes);
+        self.hints[chain.0 as usize] = near;
+        Found {
+            ends: false,
+            repeats,
+        }
     }
 
     /// Returns whether none of the octets differs from the one kept at its offset.

@@ -20,7 +20,8 @@ take-option area at size begins some =
     let e : size ≡ suc (size - 1) = omega arith in
     ap (take size) (drop-kind area at _ begins refl) ∙ ap (λ n. take n (get_or area at 0 ∷ drop (at + 1) area)) e
 
--- cleaning at the offset `at`: an option that is kept, one that is not, a no-operation, and the end option
+-- cleaning at the offset `at`: an option that is kept, one that is not, a no-operation, and the end
+-- option
 pub cleaned_from-keep : (syn : Bool) (before area : List ℕ) (at size : ℕ) → get_or area (at + 1) 0 ≡ size → 2 ≤ size → at + size ≤ length area → 2 ≤ get_or area at 0 → is_kept_after syn before (get_or area at 0) size ≡ true → cleaned_from syn before true 0 (drop at area) ≡ take size (drop at area) ++ cleaned_from syn (get_or area at 0 ∷ before) true 0 (drop (at + size) area)
 cleaned_from-keep syn before area at size e two inside other keep =
     let kind = get_or area at 0 in
@@ -176,7 +177,8 @@ pub SoFar-end : (syn : Bool) (old now new : List ℕ) (at : ℕ) (kept : Kept) (
 SoFar-end syn old now new at kept changed s ends e =
     e ∙ ap (λ xs. take at now ++ xs) (sym (cleaned_from-end syn s.before now at ends)) ∙ sym s.front
 
--- setting the octets from an offset on to 0 leaves as many octets of 0 there; it changes nothing exactly if they were 0
+-- setting the octets from an offset on to 0 leaves as many octets of 0 there; it changes nothing
+-- exactly if they were 0
 cleared : (now new : List ℕ) (at : ℕ) → at ≤ length now → new ≡ take at now ++ replicate (length (drop at now)) 0 → drop at new ≡ replicate (length (drop at now)) 0
 cleared now new at inside e = ap (drop at) e ∙ drop_at (take at now) _ at (length-take-le at now inside)
 
@@ -212,7 +214,8 @@ SoFar-other syn area at size kept s e two inside other keep same =
     let there = ap (λ xs. get_or xs at 0) same in
     absurd (omega (arith, one, there))
 
--- an area whose options are all kept is what it is cleaned to exactly if all octets from its end option on are 0
+-- an area whose options are all kept is what it is cleaned to exactly if all octets from its end
+-- option on are 0
 pub SoFar-whole : (syn : Bool) (area : List ℕ) (at : ℕ) (kept : Kept) (some : Bool) → SoFar syn area area at kept false → (at < length area → get_or area at 0 ≡ 0) → some ≡ list_any (λ octet. not (octet == 0)) (take (length area - at) (drop at area)) → (some ≡ false) ↔ (cleaned syn area ≡ area)
 SoFar-whole syn area at kept some s ends e =
     let new = take at area ++ replicate (length (drop at area)) 0 in
@@ -222,7 +225,8 @@ SoFar-whole syn area at kept some s ends e =
 
 -- Cleaning of an area into another buffer, which has no-operations where nothing was written yet.
 
--- `target` has the cleaned octets of `area` up to the offset `at` where an option begins, and no-operations from there on; `before` are the kinds kept
+-- `target` has the cleaned octets of `area` up to the offset `at` where an option begins, and
+-- no-operations from there on; `before` are the kinds kept
 pub record CopiedTo (syn : Bool) (area target : List ℕ) (at : ℕ) (kept : Kept) : Type 0 where
   pub before : List ℕ
   pub stands : StandsFor kept before

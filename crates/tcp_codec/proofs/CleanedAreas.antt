@@ -10,7 +10,8 @@ use Rattle.wire_base.proofs.OptionLists.{are_well_formed-walk, has-first, scale_
 use Rattle.tcp_codec.specs.Cleaning.{CleansOctets, CleansOnce, KeepsScale, LosesScale, StaysWellFormed, is_kept_after}
 use Rattle.tcp_codec.proofs.Walks.{cleaned_from, cleaned_from-first, cleaned_from-other, cleaned-walk, end_from, end_from-sized, end_of-walk}
 
--- the number of octets that still belong to the option before in a walk over the cleaned area: 0 if that option was not kept
+-- the number of octets that still belong to the option before in a walk over the cleaned area: 0 if
+-- that option was not kept
 abbrev pub again : Bool → ℕ → ℕ
 again true left = left
 again false left = 0
@@ -95,7 +96,8 @@ pub stays_well_formed : StaysWellFormed
 stays_well_formed syn area h =
     are_well_formed-walk (cleaned syn area) ∙ ap (formed_from 0) (cleaned-walk syn area) ∙ formed syn [] true 0 area (sym (are_well_formed-walk area) ∙ h)
 
--- an octet at the offset `place`: it is unchanged or a no-operation before the end option, and it is 0 from there on
+-- an octet at the offset `place`: it is unchanged or a no-operation before the end option, and it
+-- is 0 from there on
 abbrev pub IsOctet : (end : ℕ) (area new : List ℕ) (place : ℕ) → Type 0
 IsOctet end area new place = (place < end → (get_or new place 0 ≡ get_or area place 0) ⊎ (get_or new place 0 ≡ 1)) × (end ≤ place → get_or new place 0 ≡ 0)
 

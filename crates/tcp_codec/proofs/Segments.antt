@@ -1,4 +1,5 @@
--- What is parsed of a segment: of one that was written, of one with its checksum rewritten, and where the options decide.
+-- What is parsed of a segment: of one that was written, of one with its checksum rewritten, and
+-- where the options decide.
 use Rattle.std.proofs.Common.{◌≡◌, ℕ, ◌-◌, ◌+◌, ◌≤◌, ◌&&◌, ◌||◌, nat_lt, not, Bool, true, false, List, length, take, drop, Some, None, Ok, Err, if◌then◌else◌, refl, sym, ap, ◌∙◌, arith, zero, suc, ◌*◌, ◌/◌, ◌<◌, [], ◌∷◌, ◌++◌, ap₂, length-take-le, length-drop, append_assoc, ◌%◌, slice_index}
 use Rattle.std.proofs.lemmas.List.{drop-take, drop-drop, drop_at, take_at, length-append}
 use Rattle.std.proofs.lemmas.Bool.Decides.{nat_tests}
@@ -26,7 +27,7 @@ area_is m header e some =
     let sum : 20 + (header - 20) ≡ tcp.header_length m = omega arith in
     sym (drop-take 20 (header - 20) m) ∙ ap (λ n. drop 20 (take n m)) sum
 
--- with a whole header, an accepted sum and legal flags, the options decide
+-- with a whole header, an accepted checksum and legal flags, the options decide
 pub fault_of-options : (rule : SumRule) (pseudo : ℕ) (m : List ℕ) (formed : Bool) → 20 ≤ length m → 20 ≤ tcp.header_length m → tcp.header_length m ≤ length m → (is_judged rule && tcp.has_wrong_sum pseudo m) ≡ false → tcp.are_legal (tcp.flags m) ≡ true → are_well_formed (tcp.options m) ≡ formed → fault_of rule pseudo m ≡ (if not formed then Some Options else None)
 fault_of-options rule pseudo m formed whole some inside judged legal e =
     let short : nat_lt (length m) 20 ≡ false = grind (arith, nat_tests) in
@@ -104,7 +105,7 @@ pub written_once : (m : List ℕ) (a b : ℕ) → 18 ≤ length m → with_u16 (
 written_once m a b le =
     ap₂ (λ x y. x ++ u16_octets b ++ y) (ap (take 16) (shape m a) ∙ take_at (take 16 m) (u16_octets a ++ drop 18 m) 16 (length-take-le 16 m (omega arith))) (behind m a le)
 
--- the sum of a segment with its checksum rewritten is right
+-- a segment with its checksum rewritten has a right checksum
 pub sum_is_right-mended : (pseudo : ℕ) (m : List ℕ) → 18 ≤ length m → sum_is_right (mended pseudo m) pseudo ≡ true
 sum_is_right-mended pseudo m whole =
     let rest = pseudo + word_sum (with_u16 m 16 0) in
@@ -137,7 +138,7 @@ payload-written s checksum fits =
     let m = octets_with s checksum in
     ap (λ n. drop n m) (header-words (length s.options) fits.words fits.room) ∙ sym (drop-drop (length s.options) 20 m) ∙ drop_at s.options s.octets _ refl
 
--- its sum is right
+-- its checksum is right
 pub sum-written : (s : Segment) → sum_is_right (segment_octets s) (pseudo_of s) ≡ true
 sum-written s =
     let m = octets_with s 0 in

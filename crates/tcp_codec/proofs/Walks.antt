@@ -1,4 +1,5 @@
--- Walks over the options of an area: their steps, and cleaning as one walk, which is cleaning by the list of options.
+-- Walks over the options of an area: their steps, and cleaning as one walk, which is cleaning by
+-- the list of options.
 use Rattle.std.proofs.Common.{◌≡◌, ℕ, zero, suc, ◌+◌, ◌≤◌, ◌<◌, ◌⊎◌, ◌==◌, ◌&&◌, true, false, None, List, [], ◌∷◌, length, get_or, drop, refl, sym, ap, ◌∙◌, ⊎_elim, arith, ◌-◌, ◌||◌, nat_lt, not, Bool, ◌++◌, take, replicate, if◌then◌else◌}
 use Rattle.std.proofs.Math.Bool.{and-false, or-false}
 use Rattle.std.proofs.lemmas.Bool.{cases_lt, ne_eqb, cases_Bool, and_parts}
@@ -32,7 +33,8 @@ option_inside area at formed begins sized =
     (λ inside. inside)
     (cases_lt (length area) (at + get_or area (at + 1) 0))
 
--- the octets after a no-operation, and after an option, are well formed exactly if those from it on are
+-- the octets after a no-operation, and after an option, are well formed exactly if those from it on
+-- are
 pub formed-none : (area : List ℕ) (at : ℕ) → at < length area → get_or area at 0 ≡ 1 → are_well_formed (drop at area) ≡ are_well_formed (drop (at + 1) area)
 formed-none area at inside kind = are_well_formed-walk (drop at area) ∙ formed_from-none area at inside kind ∙ sym (are_well_formed-walk (drop (at + 1) area))
 
@@ -55,7 +57,8 @@ scale-last area at ends =
     (λ past. ap (scale_from 0) (drop_all at area past))
     (cases_lt at (length area))
 
--- in a well-formed list the next option has at least one octet and lies inside the area, and the octets after it are well formed
+-- in a well-formed list the next option has at least one octet and lies inside the area, and the
+-- octets after it are well formed
 pub record Steps (area : List ℕ) (at size : ℕ) : Type 0 where
   pub least : 1 ≤ size
   pub inside : at + size ≤ length area
@@ -106,8 +109,9 @@ last-kind area at formed begins last some =
 
 -- Cleaning as one walk over the octets, and that it is equal to cleaning by the list of options.
 
--- The cleaned area: the octets of an option that is not kept are 1, those from the end option on are 0. Arguments: the kinds kept before, whether the option
--- before is kept, and the number of octets that still belong to it.
+-- The cleaned area: the octets of an option that is not kept are 1, those from the end option on
+-- are 0. Arguments: the kinds kept before, whether the option before is kept, and the number of
+-- octets that still belong to it.
 abbrev pub cleaned_from : (syn : Bool) (before : List ℕ) (keep : Bool) → (left : ℕ) → List ℕ → List ℕ
 cleaned_from syn before keep left [] = []
 cleaned_from syn before keep (suc left) (x ∷ octets) = (if keep then x else 1) ∷ cleaned_from syn before keep left octets
@@ -170,7 +174,8 @@ earlier-append : (place : ℕ) (front : List Listed) (option : Listed) → Earli
 earlier-append place [] option h here = (here, tt)
 earlier-append place (first ∷ front) option h here = (h.0, earlier-append place front option h.1 here)
 
--- options that all begin before `place` pass a test restricted to offsets below it exactly if they pass it, and options from there on never
+-- options that all begin before `place` pass a test restricted to offsets below it exactly if they
+-- pass it, and options from there on never
 earlier-any : (test : Listed → Bool) (place : ℕ) (front : List Listed) → Earlier place front → list_any (λ other. nat_lt other.place place && test other) front ≡ list_any test front
 earlier-any test place [] h = refl
 earlier-any test place (option ∷ front) h =

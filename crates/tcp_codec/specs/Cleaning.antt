@@ -4,15 +4,18 @@ use Rattle.std.specs.List.{list_any}
 use Rattle.wire_base.specs.Options.{are_well_formed, may_be_kept, cleaned, scale_of, end_of}
 use Rattle.tcp_codec.specs.declared.cleaning.Kept.{Kept}
 
--- an option of this kind and length is kept after options of the kinds `before`: it may be kept, and its kind is not among these
+-- an option of this kind and length is kept after options of the kinds `before`: it may be kept,
+-- and its kind is not among these
 abbrev pub is_kept_after : (syn : Bool) (before : List ℕ) (kind size : ℕ) → Bool
 is_kept_after syn before kind size = may_be_kept syn kind size && not (list_any (λ other. other == kind) before)
 
--- `kept` represents the kinds `before`: its entry of a kind below 9 is true exactly if the kind is one of them
+-- `kept` represents the kinds `before`: its entry of a kind below 9 is true exactly if the kind is
+-- one of them
 abbrev pub StandsFor : Kept → (before : List ℕ) → Type 0
 StandsFor kept before = (kind : ℕ) → kind < 9 → slice_index_or kept.0 kind false ≡ list_any (λ other. other == kind) before
 
--- `new` has the length of `area`; its octets before the end option of `area` are unchanged or no-operations, all from there on are 0
+-- `new` has the length of `area`; its octets before the end option of `area` are unchanged or
+-- no-operations, all from there on are 0
 pub record IsCleaned (area new : List ℕ) : Type 0 where
   pub size : length new ≡ length area
   pub options : (place : ℕ) → place < end_of area → (slice_index new place ≡ slice_index area place) ⊎ (slice_index new place ≡ 1)

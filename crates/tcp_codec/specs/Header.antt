@@ -9,7 +9,8 @@ use Rattle.tcp_codec.specs.declared.header.SumRule.TheVariants.{Must, Skip}
 use Rattle.tcp_codec.specs.declared.header.TcpFault.{TcpFault}
 use Rattle.tcp_codec.specs.declared.header.TcpFault.TheVariants.{Short, DataOffset, Sum, Flags, Options}
 
--- each field at its offset in the octets of a segment, and whether its sum is right; `pseudo` is the sum of the pseudo-header
+-- each field at its offset in the octets of a segment, and whether its checksum is right; `pseudo`
+-- is the sum of the pseudo-header
 abbrev pub fields_of : (pseudo : ℕ) → List ℕ → Tcp
 fields_of pseudo segment =
     record {
@@ -25,7 +26,7 @@ fields_of pseudo segment =
       urgent = tcp.urgent_pointer segment;
     }
 
--- a wrong sum is a fault
+-- a wrong checksum is a fault
 abbrev pub is_judged : SumRule → Bool
 is_judged Must = true
 is_judged Skip = false

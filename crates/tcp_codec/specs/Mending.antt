@@ -4,11 +4,13 @@ use Rattle.wire_base.specs.Numbers.{with_u16}
 use Rattle.wire_base.specs.Sums.{word_sum, checksum_for}
 use Rattle.wire_base.specs.Tcp as tcp
 
--- the segment with the right checksum, summed with 0 in the checksum field, all other octets unchanged; `pseudo` is the sum of the pseudo-header
+-- the segment with the right checksum, summed with 0 in the checksum field, all other octets
+-- unchanged; `pseudo` is the sum of the pseudo-header
 abbrev pub mended : (pseudo : ℕ) → List ℕ → List ℕ
 mended pseudo segment = with_u16 segment 16 (checksum_for (pseudo + word_sum (with_u16 segment 16 0)))
 
--- two segments have the same ports, sequence and acknowledgment numbers, flags, window, options, payload and length
+-- two segments have the same ports, sequence and acknowledgment numbers, flags, window, options,
+-- payload and length
 pub record SaysTheSame (a b : List ℕ) : Type 0 where
   pub source_port : tcp.source_port a ≡ tcp.source_port b
   pub destination_port : tcp.destination_port a ≡ tcp.destination_port b

@@ -36,8 +36,8 @@ segment_of parts octets = segment_with parts parts.options.items octets
 abbrev pub cleaned_segment : SegmentParts → (syn : Bool) → (area octets : List ℕ) → Segment
 cleaned_segment parts syn area octets = segment_with parts (cleaned syn area) octets
 
--- the fields before the options: ports, sequence and acknowledgment numbers, data offset in words of four octets, reserved bits 0, flags, window, checksum, and
--- urgent pointer 0
+-- the fields before the options: ports, sequence and acknowledgment numbers, data offset in words
+-- of four octets, reserved bits 0, flags, window, checksum, and urgent pointer 0
 abbrev pub header_octets : Segment → (checksum : ℕ) → List ℕ
 header_octets s checksum =
     u16_octets s.source_port ++ u16_octets s.destination_port
@@ -62,7 +62,8 @@ checksum_of s = checksum_for (pseudo_of s + word_sum (octets_with s 0))
 abbrev pub segment_octets : Segment → List ℕ
 segment_octets s = octets_with s (checksum_of s)
 
--- the numbers fit their fields, the options fill words of four octets, and the segment fits an IPv4 packet with a header of 20 octets
+-- the numbers fit their fields, the options fill words of four octets, and the segment fits an IPv4
+-- packet with a header of 20 octets
 pub record Fits (s : Segment) : Type 0 where
   pub source : s.source < 2 ^ 32
   pub destination : s.destination < 2 ^ 32

@@ -54,9 +54,10 @@ fn may_be_kept(syn: bool, kind: u8, size: usize) -> bool
 
 /// Overwrites each option before the end option that is not kept with no-operations, and each octet
 /// after the end option with 0. Maximum segment size, window scale and SACK permitted are kept on a
-/// SYN, and SACK of one to four blocks and timestamps on every segment, each only with its own
-/// length, and only the first of its kind (this project's profile). Returns whether an octet
-/// changed.
+/// SYN, and SACK of one to four blocks and timestamps on every segment. Each is kept only with its
+/// own length, and only the first of its kind (this project's profile). Returns whether an octet
+/// changed. Lengths in octets: SACK 10, 18, 26 or 34, timestamps 10, maximum segment size 4, window
+/// scale 3, SACK permitted 2. Every no-operation is kept.
 pub fn clean_options(options: &mut [u8], syn: bool) -> bool
     requires { are_well_formed options.old ≡ true }
     ensures exact { options.new ≡ cleaned syn options.old }

@@ -30,23 +30,23 @@ pub struct Tcp {
     pub reserved: u8,
     pub flags: Flags,
     pub window: u16,
-    /// The sum over the pseudo-header and the segment is right.
+    /// The checksum over the pseudo-header and the segment is right.
     pub sum_right: bool,
     /// The urgent pointer.
     pub urgent: u16,
 }
 
-/// The treatment of a wrong sum.
+/// The treatment of a wrong checksum.
 #[derive(Clone, Copy, Debug, PartialEq, Eq)]
 pub enum SumRule {
-    /// A wrong sum is a fault.
+    /// A wrong checksum is a fault.
     Must,
-    /// The sum is not tested, as where a network card computes the checksum later.
+    /// The checksum is not tested, as where a network card computes it later.
     Skip,
 }
 
 impl SumRule {
-    // Returns whether a sum is a fault; `right` says whether it is right.
+    // Returns whether a checksum is a fault; `right` says whether it is right.
     fn refuses(self, right: bool) -> bool
         ensures { result ≡ (is_judged self && not right) }
     {
@@ -57,7 +57,8 @@ impl SumRule {
     }
 }
 
-/// Reasons why octets are not a TCP segment, in the order of the tests.
+/// Reasons why octets are not a TCP segment, in the order of the tests. The causes are those of the
+/// rules T_SHORT, T_HLEN, T_SUM, T_FLAGS and T_OPT_BAD; `Sum` only under `SumRule::Must`.
 #[derive(Clone, Copy, Debug, PartialEq, Eq, Error)]
 pub enum TcpFault {
     #[error("fewer than 20 octets")]

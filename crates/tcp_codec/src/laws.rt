@@ -3,8 +3,8 @@ ghost use Rattle.tcp_codec.specs.Cleaning.{CleansOctets, CleansOnce, KeepsScale,
 ghost use Rattle.tcp_codec.specs.Mending.{MendedSayTheSame};
 ghost use Rattle.tcp_codec.specs.Write.{AreReadBack};
 
-/// States that cleaning cleaned options again changes nothing, that well-formed options stay well
-/// formed, and that each octet before the end option is unchanged or a no-operation, and each from
+/// States that cleaning cleaned options again changes nothing, and that well-formed options stay
+/// well formed. Each octet before the end option is unchanged or a no-operation, and each from
 /// there on 0.
 pub fn options_are_cleaned()
     ensures once { CleansOnce }

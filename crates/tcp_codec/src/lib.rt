@@ -4,8 +4,8 @@
 //! Proved: `parse` returns the header with its fields, or its first fault; `parse_into` stores the
 //! fields in a header of the caller's. `scale_of` returns the window shift of the options.
 //! `clean_options` cleans an option area octet for octet as defined, and returns whether an octet
-//! changed, as `options_change` does without changing one; cleaning twice is cleaning once and
-//! keeps the window scale of a SYN alone (`laws`). `write_segment` writes a segment octet for octet
+//! changed, as `options_change` does without changing one. Cleaning twice is cleaning once, and it
+//! keeps the window scale only of a SYN (`laws`). `write_segment` writes a segment octet for octet
 //! with a right checksum, and it is read back as the parts it was written from (`laws`);
 //! `write_cleaned` does so with cleaned options. `mend` replaces the checksum by the right one and
 //! changes nothing else.

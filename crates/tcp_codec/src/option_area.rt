@@ -56,8 +56,8 @@ pub fn size_at(area: &[u8], at: usize) -> usize
 }
 
 /// Returns the shift count, at most 14, of the first window scale option of length 3 before the end
-/// option (RFC 7323 section 2). Counts the options so that the compiler sees that the loop ends: it
-/// then removes a call whose result is not used.
+/// option (RFC 7323 section 2), None if there is none. Counts the options so that the compiler sees
+/// that the loop ends: it then removes a call whose result is not used.
 pub fn scale_of(options: &[u8]) -> Option<u8>
     requires { spec.are_well_formed options.now ≡ true }
     ensures { result ≡ spec.scale_of options.now }

@@ -91,7 +91,7 @@ pub fn write_cleaned(
 }
 
 /// Writes the right checksum into a segment, and leaves all other octets unchanged. `pseudo` is the
-/// sum of the pseudo-header.
+/// sum of the pseudo-header. The checksum may be 0.
 pub fn mend(bytes: &mut [u8], pseudo: u32)
     requires { 18 ≤ length bytes.old }
     ensures exact { bytes.new ≡ mended pseudo bytes.old }

@@ -30,9 +30,10 @@ use Rattle.std.specs.Prelude.{filter}
 use Rattle.tcp_norm.proofs.HeaderRules.{flags_stay, header_are, header_mended, header_stays, those_are}
 use Rattle.ip_rules.proofs.Lists.{none_named}
 
--- An inbound datagram beside what is sent of it.
+-- An inbound datagram and what is sent of it.
 
--- The datagram is inbound between these ends, and what is sent inwards of it has its numbers, its window and its flags but for urgent ones.
+-- The datagram is inbound between these ends, and what is sent inwards of it has its numbers, its
+-- window and its flags but for urgent ones.
 pub record Comes (d : Datagram) (key : FlowKey) (s : Seg) : Type 0 where
   pub side : goes_in d.side ≡ true
   pub key_is : key_of d ≡ key

@@ -52,7 +52,7 @@ record AddsNone (w : Written) : Type 0 where
   octets : (base at : ℕ) (offset : ℤ) → octet_at base at offset w ≡ None
   end : (base at : ℕ) → fin_place base at w ≡ None
 
--- this holds of each of these
+-- this holds for each of these
 abbrev AddNone : List Written → Type 0
 AddNone ws = AllByRecursion AddsNone ws
 
@@ -572,7 +572,7 @@ kept_here b (negsuc a) len index n above less inside is =
             let zero_is : 0 ≡ len - (a + 1) = omega (arith, less) in
             ap nat_of is ∙ zero_is
 
--- a segment that has another octet than the first at an offset at or past Acked clashes
+-- a segment clashes whose octet, at an offset at or past Acked, differs from the first
 clashes_at : (ws : List Written) (w : Written) (n octet other : ℕ) → AreEmitted [] ws → base_of ws ≡ Some (base_at ws) → first (base_at ws) ws (pos n) ≡ Some octet → acked (base_at ws) ws ≤ n
     → HasAt (base_at ws) (pos n) other ws w → octet ≢ other → clashes ws w ≡ true
 clashes_at ws w n octet other emitted based was above has differ =

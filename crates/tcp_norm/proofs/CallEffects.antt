@@ -175,7 +175,7 @@ relabel lives segments later begun entries store same fresh h = record {
 
 -- What was kept represents the calls with the one of an outbound segment, by what it does.
 
--- what was opened stays, and the numbers of what is kept go on by one call
+-- what was opened stays, and the numbers of what is kept advance by one call
 pub record GoesOn (settings : PlainSettings) (old new : TcpNorm) (now more : ℕ) : Type 0 where
   pub opened : IsFor settings new
   pub begun : new.begun ≡ old.begun + more

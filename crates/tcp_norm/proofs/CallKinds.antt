@@ -56,7 +56,8 @@ data Turn (era evictable : Option ℕ) (next : ℕ) (full : Bool) (begun : Optio
   instead : (k : ℕ) → era ≡ None → evictable ≡ Some k → begun ≡ Some next → ended ≡ k ∷ [] → Turn era evictable next full begun ended
   again : (m : ℕ) → era ≡ Some m → begun ≡ Some next → ended ≡ m ∷ [] → Turn era evictable next full begun ended
 
--- the era that begins, and those that end, by the tests of the segment: whether one begins, reopens, and is reset
+-- the era that begins, and those that end, by the tests of the segment: whether one begins,
+-- reopens, and is reset
 abbrev begun_by : (evictable : Option ℕ) (next : ℕ) (begins reopens full : Bool) → Option ℕ
 begun_by evictable next begins reopens full = cond ((begins && not (begins && full && is_none evictable)) || reopens) (Some next) None
 
@@ -173,7 +174,7 @@ idles settings now cs = take 2 (filter (λ a. nat_lt (a.touched + settings.idle)
 pub nowhere : FlowKey
 nowhere = record { outside = record { 0 = 0 }; outside_port = 0; inside = record { 0 = 0 }; inside_port = 0 }
 
--- the call that the rules make of a time ends them, and does no more
+-- the call that the rules make of a time ends them, and does nothing else
 pub idle_kind : (settings : PlainSettings) (cs : List Call) (now : ℕ) → Moves (expiry_of settings cs now) nowhere [] None (numbers_of (idles settings now cs))
 idle_kind settings cs now = record { touched_is = refl; begun_is = λ k. sym (never (is_key nowhere k)); begins_is = refl; ended_is = refl; writes = λ n. refl }
 

@@ -1,6 +1,7 @@
 -- Rules and steps of RSTs, SYNs and datagrams without an era: which era they begin, reopen or end.
 use Rattle.std.proofs.Common.{◌≡◌, ℕ, ◌+◌, ◌&&◌, not, Bool, true, false, cond, List, Option, Some, None, is_some, refl, sym, ap, ap₂, ◌∙◌, ◌≢◌, ◌||◌, [], subst, ◌∷◌, pos, ◌-ℤ◌, AllPairs, nat_lt, is_none}
 use Rattle.std.specs.Option.{option_or}
+use Rattle.std.proofs.lemmas.Bool.{and_parts}
 use Rattle.wire_base.specs.Tcp as tcp
 use Rattle.wire_base.specs.Segments.{Written}
 use Rattle.wire_base.specs.declared.address.FlowKey.{FlowKey}
@@ -34,6 +35,9 @@ use Rattle.tcp_norm.specs.declared.step.Place.{Place}
 use Rattle.tcp_norm.specs.Steps.{IsStep, began, evicted, place_of, place_in}
 use Rattle.tcp_norm.specs.Standing.{HoldsFor}
 use Rattle.tcp_norm.specs.Writes.{BringsNone}
+use Rattle.tcp_norm.specs.Colds.{are_of_call}
+use Rattle.tcp_norm.specs.Emits.{flags_cleared}
+use Rattle.tcp_norm.proofs.HeaderRules.{flags_stay}
 use Rattle.tcp_norm.proofs.BareSegments.{Comes}
 use Rattle.tcp_norm.proofs.StreamRules.{dropped_is}
 use Rattle.tcp_norm.proofs.LiveEras.{live_here, live_nowhere}
@@ -344,3 +348,44 @@ no_reset f legal syn = cases (tcp.has_rst f) refl
     cases : (b : Bool) → tcp.has_rst f ≡ b → b ≡ false
     cases false e = refl
     cases true e = never (not (tcp.has_fin f)) (ap₂ (λ x y. tcp.go_together x (tcp.has_fin f) y (tcp.has_ack f)) (sym syn) (sym e) ∙ legal)
+
+-- what is known of the datagram of a segment with the flags of a call
+pub record IsCalling (d : Datagram) : Type 0 where
+  pub call : is_call (segment_in d) ≡ true
+  pub cold : t_cold (segment_in d) ≡ false
+  pub asked : is_asked (segment_in d) ≡ false
+
+is_not : (b : Bool) → not b ≡ true → b ≡ false
+is_not true e = sym e
+is_not false e = refl
+
+pub calling : (d : Datagram) (f : ℕ) → goes_in d.side ≡ true → tcp.flags d.octets ≡ f → are_of_call f ≡ true → IsCalling d
+calling d f side same called =
+    let parts = and_parts (tcp.has_syn f && not (tcp.has_ack f)) (not (tcp.has_rst f)) called in
+    let first = and_parts (tcp.has_syn f) (not (tcp.has_ack f)) parts.0 in
+    let syn : tcp.has_syn (tcp.flags d.octets) ≡ true = ap tcp.has_syn same ∙ first.0 in
+    let ack : tcp.has_ack (tcp.flags d.octets) ≡ false = ap tcp.has_ack same ∙ is_not (tcp.has_ack f) first.1 in
+    let rst : tcp.has_rst (tcp.flags d.octets) ≡ false = ap tcp.has_rst same ∙ is_not (tcp.has_rst f) parts.1 in
+    record {
+      call = (λ k. (side k && syn k) && not (ack k));
+      cold = (λ k. side k && (rst k || (syn k && ack k)));
+      asked = (λ k. side k && not (syn k) && not (rst k));
+    }
+
+-- what goes inwards of a call is a SYN without ACK
+pub call_sent : (f sent : ℕ) → sent ≡ flags_cleared f → are_of_call f ≡ true → (tcp.has_syn sent ≡ true) × (tcp.has_ack sent ≡ false)
+call_sent f sent same called =
+    let parts = and_parts (tcp.has_syn f && not (tcp.has_ack f)) (not (tcp.has_rst f)) called in
+    let first = and_parts (tcp.has_syn f) (not (tcp.has_ack f)) parts.0 in
+    let stays = flags_stay f in
+    (ap tcp.has_syn same ∙ (stays.syn ∙ first.0), ap tcp.has_ack same ∙ (stays.ack ∙ is_not (tcp.has_ack f) first.1))
+
+-- and what goes inwards as a SYN without ACK is of a call
+pub sent_call : (f sent : ℕ) → sent ≡ flags_cleared f → tcp.are_legal f ≡ true → (tcp.has_syn sent && not (tcp.has_ack sent)) ≡ true → are_of_call f ≡ true
+sent_call f sent same legal call =
+    let parts = and_parts (tcp.has_syn sent) (not (tcp.has_ack sent)) call in
+    let stays = flags_stay f in
+    let syn : tcp.has_syn f ≡ true = sym stays.syn ∙ (ap tcp.has_syn (sym same) ∙ parts.0) in
+    let ack : tcp.has_ack f ≡ false = sym stays.ack ∙ (ap tcp.has_ack (sym same) ∙ is_not (tcp.has_ack sent) parts.1) in
+    let rst = no_reset f legal syn in
+    λ k. (syn k && not (ack k)) && not (rst k)

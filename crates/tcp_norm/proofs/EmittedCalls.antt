@@ -49,7 +49,8 @@ pub record Below : Type 0 where
   pub same : MendedSayTheSame
   pub cleans : CleansOctets
 
--- The era in which a segment that no rule drops is written: one that it begins, of which nothing was written, or the live one.
+-- The era in which a segment that no rule drops is written: one that it begins, of which nothing
+-- was written, or the live one.
 pub data Enters (v : View) (w : Written) (ws : List Written) : Type 0 where
   begun : (n : ℕ) → begun_with v w ≡ Some n → ws ≡ [] → Enters v w ws
   within : (n : ℕ) → v.era ≡ Some n → begun_with v w ≡ None → v.segments ≡ ws → Enters v w ws
@@ -71,7 +72,7 @@ passes_out b settings v d ws h out =
     alone true e = rw (e, out) refl
     alone false e = rw (e, out) refl
 
--- a SYN or a RST, and what goes in behind it
+-- a SYN or a RST, and what goes in after it
 marked_in : Below → (settings : PlainSettings) (v : View) (d : Datagram) (ws : List Written) (behind : List Packet) → IsSegment settings d → goes_in d.side ≡ true
     → (tcp.has_syn (segment_in d).flags || tcp.has_rst (segment_in d).flags) ≡ true → (is_live v && era.is_of_stream v.segments (segment_in d)) ≡ false
     → (tcp.has_syn (segment_in d).flags ≡ true → base_of (ws ++ bare_read d.octets ∷ []) ≡ Some (((segment_in d).seq + 1) % 2 ^ 32)) → AllByRecursion IsSilent (written d behind)
@@ -90,7 +91,7 @@ passes_cold b settings v d ws h side none (begun n begins empty) =
     subst (λ ps. AreEmitted ws (written d ps)) (sym (packets_begun settings v d (mended_by settings v d) none asked))
     (marked_in b settings v d ws [] h side (called_marked v w side asked) (cold_stream v w none) (fixes_base ws d.octets (ap base_of empty)) tt)
 
--- the rules on its era hold of none that passes
+-- the rules on its era apply to none that passes
 pub passed_rows : (settings : PlainSettings) (v : View) (d : Datagram) → goes_in d.side ≡ true → dropped_by settings v d ≡ None → AllByRecursion (λ r. holds_era settings v d r ≡ false) era_rows
 passed_rows settings v d side none = none_found (holds_era settings v d) era_rows (ap (λ b. cond b (find (holds_era settings v d) era_rows) None) (sym side) ∙ none)
 

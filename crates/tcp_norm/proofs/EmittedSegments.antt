@@ -41,7 +41,8 @@ use Rattle.tcp_norm.specs.Streams.{bare_tests, stream_tests}
 use Rattle.std.proofs.lemmas.List.Sums.{count_by-le-length, length-filter}
 use Rattle.tcp_norm.proofs.HeaderRules.{flags_stay, header_mended, those_few}
 
--- What is emitted of an outbound datagram, and of an inbound one that brings no octet of the stream.
+-- What is emitted of an outbound datagram, and of an inbound one that brings no octet of the
+-- stream.
 
 -- what its own packet carries
 pub packet_sent : (settings : PlainSettings) (ws : List Written) (d : Datagram) (fixes named : List Rule) → (packet_by settings ws d fixes named).octets ≡ segment_sent ws d named
@@ -199,7 +200,8 @@ kept_frame ws w frame based f = record {
       ∙ ap (λ o. unwrap_or o (own_octet ws w (low_of ws w + index))) e;
 }
 
--- at most nine rules rewrite an inbound segment: those on its header, and those on one of the stream or on another
+-- at most nine rules rewrite an inbound segment: those on its header, and those on one of the
+-- stream or on another
 pub inward_few : (settings : PlainSettings) (v : View) (d : Datagram) → goes_in d.side ≡ true → length (mended_by settings v d) ≤ 9
 inward_few settings v d side = cases (is_live v && era.is_of_stream v.segments (segment_in d)) refl
   where

@@ -27,7 +27,8 @@ use Rattle.tcp_norm.specs.Spare.{written_back}
 use Rattle.tcp_norm.specs.declared.state.TcpNorm.{TcpNorm}
 use Rattle.tcp_norm.proofs.Lists.{all_unmap, pairs_rest, pairs_push, filter_only, everywhere, number_other, number_same}
 
--- the entries of other slots, and the live eras of them, where the chain of one slot may hold anything
+-- the entries of other slots, and the live eras of them, where the chain of one slot may hold
+-- anything
 pub record RestFor (hole : ℕ) (eras : List Alive) (segments : ℕ → List Written) (begun : ℕ) (entries : List (Entry EraKey Flow)) (store : Store) : Type 0 where
   pub eras_are : map alive_in entries ≡ eras
   pub each : AllByRecursion (EntryStands segments store) entries
@@ -291,7 +292,7 @@ value_in P entries slot flow (k, x, below, reads, named) was is =
 pub same_value : (entries : List (Entry EraKey Flow)) (slot : Slot) (a b : Flow) → IsIn entries slot → Wherever entries slot (λ e. a ≡ e.value) → Wherever entries slot (λ e. e.value ≡ b) → a ≡ b
 same_value entries slot a b inside first second = value_in (λ f. f ≡ b) entries slot a inside first second
 
--- what was opened is as it was
+-- the opened parts are as they were
 pub opened_kept : (settings : PlainSettings) (old new : TcpNorm) → IsFor settings old → new.table.max ≡ old.table.max
     → length new.store.chains ≡ length old.store.chains → new.store.cells ≡ old.store.cells → new.limits ≡ old.limits → IsFor settings new
 opened_kept settings old new is flows chains store limits =

@@ -1,4 +1,5 @@
--- Calls that write in one live era and begin and end none: its new value and chain, numbers in bounds.
+-- Calls that write in one live era and begin and end none: its new value and chain, numbers in
+-- bounds.
 use Rattle.std.proofs.Common.{not, ℕ, ◌≡◌, ◌==◌, ◌≤◌, ◌<◌, ◌^◌, ◌∙◌, sym, ap, subst, Bool, true, false, cond, List, ◌∷◌, ◌++◌, filter, arith, ◌+◌, ◌≢◌, [], length, map, ap₂, ◌&&◌, Some, None, is_some, refl, ◌*◌, take}
 use Rattle.std.specs.List.{All, AllByRecursion, count_by, range_with_len}
 use Rattle.std.proofs.lemmas.List.Elements.{recursion_from_All, All-from_recursion}
@@ -49,7 +50,7 @@ use Rattle.tcp_norm.proofs.KeptOctets.{count_is, keeps_same}
 use Rattle.tcp_norm.proofs.CallEffects.{lives_touch, stands_next, own_by, others_by}
 use Rattle.tcp_norm.proofs.HeaderRules.{header_mended}
 
--- The numbers kept of each era stay in their bounds, also where a filter leaves some eras out.
+-- The numbers kept of each era stay in their bounds, even where a filter leaves some eras out.
 
 -- The numbers kept of each era stay in their bounds.
 
@@ -94,7 +95,7 @@ near_at calls entries slot flow (k, x, below, reads, named) was near =
     let here = ap (λ (e : Entry EraKey Flow). e.slot) reads ∙ named in
     subst (λ (f : Flow). IsNear calls f.era) (sym (was k x below here)) (near k x below)
 
--- what is acknowledged is far below 2^64
+-- the acknowledged offset is far below 2^64
 pub acked_small : (calls : ℕ) (entries : List (Entry EraKey Flow)) → calls < 2 ^ 32 → AreNear calls entries → All (λ e. acked_in e.value.era < 2 ^ 63) entries
 acked_small calls entries few near k x below = let n = near k x below in omega (arith, n.0, few)
 
@@ -102,7 +103,7 @@ acked_small calls entries few near k x below = let n = near k x below in omega (
 
 -- Segments are written in one era, and none begins and none ends.
 
--- the entry's segments have the new ones behind, all others stay
+-- the entry's segments are followed by the new ones, all others stay
 writes_in : (lives : List Alive) (segments later : ℕ → List Written) (begun : ℕ) (entries : List (Entry EraKey Flow)) (store new : Store) (slot : Slot) (a : SplitAt entries slot) (value : Flow) (more : List Written) (now : ℕ)
     → HoldsFor lives segments begun entries store
     → later a.here.value.number ≡ segments a.here.value.number ++ more → ((m : ℕ) → m ≢ a.here.value.number → later m ≡ segments m)
@@ -159,7 +160,8 @@ written_holds lives segments later begun t store new live value more now h held 
     (numbered ∙ back) touched chains (subst (λ n. era.StandsFor value.era (segments n ++ more)) back stands) (subst (λ n. Keeps (chain_of new live.slot.0) (segments n ++ more)) back keeps)
     (count ∙ ap (λ n. held_of (segments n ++ more)) back)))
 
--- The call of a datagram that passes in its live era writes in it, and one that is dropped leaves all eras.
+-- The call of a datagram that passes in its live era writes in it, and one that is dropped leaves
+-- all eras.
 
 passed_in : (d : Datagram) (o : Outcome) (n now : ℕ) → is_written o.verdict ≡ true → WritesIn (datagram now d (record o { era = Some n; begun = None; ended = [] })) n (key_of d) now (map (λ p. read (goes_in d.side) p.octets) o.packets)
 passed_in d o n now written = record {
@@ -252,7 +254,8 @@ taken_long t scratch room =
     let size = length t.own.now in
     elim t.as_read as (λ b. length (cond b t.own.now (take size scratch)) ≡ size) [ true ↦ refl | false ↦ length-take-le size scratch room ]
 
--- the entry of the era has another value, its era these segments more, and its chain what is kept of them
+-- the entry of the era has another value, its era these segments more, and its chain what is kept
+-- of them
 pub stands_written : (settings : PlainSettings) (old new : TcpNorm) (cs : List Call) (now : ℕ) (d : Datagram) (live : Live) (value : Flow) (ws : List Written) (o : Outcome)
     → StandsFor settings old cs → IsFor settings new → new.begun ≡ old.begun → new.calls ≡ old.calls + 1 → new.latest ≡ now → old.latest ≤ now
     → IsHeld old.table live → live.key ≡ key_of d → value.number ≡ live.flow.number → value.touched ≡ now

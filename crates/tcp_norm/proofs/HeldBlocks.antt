@@ -23,7 +23,8 @@ use Rattle.tcp_norm.proofs.KeptOctets.{first_stays_of, first_is_below, got_insid
 use Rattle.tcp_norm.proofs.StreamFrames.{Own}
 use Rattle.tcp_norm.proofs.Lists.{among, among_range, count_of, count_within, passes_in, some_of}
 
--- How Held grows with a segment: not with one that brings no octet, and with one that brings some by the blocks that have none.
+-- How Held grows with a segment: not with one that brings no octet, and with one that brings some
+-- by the blocks that have none.
 
 -- what is asked of eras and of segments that are written
 pub record Laws : Type 0 where

@@ -1,4 +1,5 @@
--- What becomes of an inbound datagram: dropped, passed or rewritten, with its frames and its probes.
+-- What becomes of an inbound datagram: dropped, passed or rewritten, with its frames and its
+-- probes.
 use Rattle.std.proofs.Common.{◌≡◌, ℕ, ◌+◌, Bool, true, false, cond, List, ◌||◌, ◌++◌, map, Some, None, is_some, refl, sym, ap, ap₂, ◌∙◌, ◌==◌, length, ◌&&◌, not, ◌∷◌, Option, subst, ◌≢◌, append_assoc, arith, ◌<◌, nat_le, All, AllPairs, []}
 use Rattle.std.specs.Option.{option_or}
 use Rattle.std.proofs.lemmas.Bool.{and_parts}
@@ -113,7 +114,7 @@ writes_all d n s fixes named packets is = record {
   packets_are = refl;
 }
 
--- no probe is sent beside one that a rule drops
+-- no probe is sent for one that a rule drops
 pub no_probe_behind : (settings : PlainSettings) (v : View) (d : Datagram) (rule : Rule) → dropped_by settings v d ≡ Some rule → is_live v ≡ true → OfStream v.segments (segment_in d)
     → probe_packets settings d (probe_dropped v d rule) ≡ []
 no_probe_behind settings v d rule drops live f = cases (t_quota settings v (segment_in d)) (t_room v (segment_in d)) (sym drops ∙ stream_dropped settings v d live f)
@@ -208,7 +209,7 @@ packets_live settings v d named n live rst = cases (segment_in d).inward
     cases true = rw (live, rst) refl
     cases false = rw live refl
 
--- a RST, and behind it the probe of the era
+-- a RST, and after it the probe of the era
 pub packets_reset : (settings : PlainSettings) (v : View) (d : Datagram) (named : List Rule) (n : ℕ) → v.era ≡ Some n → goes_in d.side ≡ true → tcp.has_rst (segment_in d).flags ≡ true
     → packets_passed settings v d named ≡ packet_by settings v.segments d d.fixes named ∷ probe_packets settings d (era_probe v.segments (segment_in d))
 packets_reset settings v d named n live side rst = rw (live, side, rst) refl
@@ -217,7 +218,7 @@ packets_reset settings v d named n live side rst = rw (live, side, rst) refl
 pub keyed : (packet : IpPacket) (link : List ℕ) (d : Datagram) (key : FlowKey) → packet.side ≡ Inward → IsDatagram packet link d → key ≡ key_at Inward packet.head packet.payload.now → key_of d ≡ key
 keyed packet link d key side is same = (λ k. key_at ((is.side ∙ side) k) (is.head k) (is.octets k)) ∙ sym same
 
--- T_STATE holds of a segment with neither SYN nor RST of an era of which no offset is acknowledged
+-- T_STATE holds for a segment with neither SYN nor RST of an era of which no offset is acknowledged
 pub early_now : (ws : List Written) (w : Written) (s : State) → s ≡ state_of ws → is_acknowledged s ≡ false → w.inward ≡ true → tcp.has_syn w.flags ≡ false → tcp.has_rst w.flags ≡ false
     → t_state ws w ≡ true
 early_now ws w called is early inward syn rst = ap (λ s. is_early_at s (iss ws) w) (sym is) ∙ rw (inward, syn, rst) refl
@@ -308,7 +309,7 @@ probe_is settings d packet link head hops ip probe same side is fields raises =
     frame_probe settings d link ip head.sport head.dport probe (raises ∙ head_is settings hops packet link d same side is)
     (ap (λ (h : Tcp). h.sport) fields ∙ ap tcp.source_port (sym is.octets)) (ap (λ (h : Tcp). h.dport) fields ∙ ap tcp.destination_port (sym is.octets))
 
--- What holds of an inbound segment of a live era.
+-- What holds for an inbound segment of a live era.
 
 -- what is decided of the value in a slot is decided of a live era of the segment's connection
 pub decides_in : (a : Arrival) (old new : TcpNorm) (slot : Slot) (flow : Flow) (brief : Brief) (filled r : Ruling) (taking : Option Taking) (live : IsLiveIn old a slot) → IsSaid brief filled r → table.Wherever old.table.entries slot (λ e. flow ≡ e.value)

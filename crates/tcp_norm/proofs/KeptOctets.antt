@@ -1,4 +1,5 @@
--- The octets kept of an era, from the acknowledged one to Top, and the chain with those of a segment.
+-- The octets kept of an era, from the acknowledged one to Top, and the chain with those of a
+-- segment.
 use Rattle.std.proofs.Common.{◌≡◌, ℕ, zero, suc, ◌<◌, max, Bool, true, false, List, [], ◌∷◌, length, Option, Some, None, is_some, ℤ, pos, negsuc, ◌+ℤ◌, ◌-ℤ◌, ◌<ℤ◌, refl, arith, ◌≤◌, ◌⊎◌, inl, inr, cond, ◌++◌, sym, ap, ap₂, subst, ◌∙◌, append_assoc, ◌+◌, ◌*◌, ◌/◌, ◌-◌, ◌&&◌, append-nil, slice_get, nat_lt, int_le, int_lt, is_none}
 use Rattle.std.specs.Option.{option_or}
 use Rattle.std.proofs.lemmas.Int.{ints}
@@ -31,7 +32,8 @@ use Rattle.tcp_norm.specs.Writes.{BringsNone}
 use Rattle.tcp_norm.specs.Rows.{low_of, high_of}
 use Rattle.era_state.specs.declared.era.Era.TheVariants as variants
 
--- The octets kept of an era, from what is acknowledged to Top, and what is kept of them after a segment without octets.
+-- The octets kept of an era, from what is acknowledged to Top, and what is kept of them after a
+-- segment without octets.
 
 -- An octet that is First is below Top.
 
@@ -83,7 +85,8 @@ first_below base o (m ∷ ms) some =
 pub first_is_below : (base : ℕ) (ws : List Written) (o : ℕ) → is_some (first base ws (pos o)) ≡ true → o < top base ws
 first_is_below base ws o some = first_below base o (moments ws) some
 
--- What is kept of an era after a segment that brings no octet inwards: what was kept before, from what is acknowledged on.
+-- What is kept of an era after a segment that brings no octet inwards: what was kept before, from
+-- what is acknowledged on.
 
 -- what an era says is acknowledged is what its list says
 pub acked_is : (e : Era) (ws : List Written) → era.StandsFor e ws → acked_in e ≡ acked (base_at ws) ws
@@ -114,7 +117,7 @@ pub first_stays_of : (xs more : List Written) (base : ℕ) → first_of fixes xs
 first_stays_of [] more base is = cc
 first_stays_of (x ∷ xs) more base is = or_some (fixes x) (first_of fixes xs) (first_of fixes (xs ++ more)) base is (first_stays_of xs more base)
 
--- behind segments that bring no octet no first octet is another, and no less is acknowledged
+-- after segments that bring no octet no first octet is another, and no less is acknowledged
 none_more : FirstStays → (base : ℕ) (ws more : List Written) (o : ℕ) → AllByRecursion BringsNone more → first base (ws ++ more) (pos o) ≡ first base ws (pos o)
 none_more stays base ws [] o none = ap (λ l. first base l (pos o)) (append-nil ws)
 none_more stays base ws (w ∷ more) o none =
@@ -182,7 +185,7 @@ keeps_same stays grows old new ws more blocks was is same none keeps =
 pub outbound_brings_none : (w : Written) → w.inward ≡ false → BringsNone w
 outbound_brings_none w out base at o = rw out refl
 
--- silent segments bring none, and an era represents them behind its own
+-- silent segments bring none, and an era represents them after its own
 pub silent_brings_none : (w : Written) → IsSilent w → BringsNone w
 silent_brings_none w silent base at o = rw silent.no_octets (none_in w.inward (natural (pos o -ℤ off base at w.seq)))
   where
@@ -196,7 +199,8 @@ silent_stands stays e ws [] all stands = subst (era.StandsFor e) (sym (append-ni
 silent_stands stays e ws (w ∷ more) all stands =
     subst (era.StandsFor e) (append_assoc ws (w ∷ []) more) (silent_stands stays e (ws ++ w ∷ []) more all.1 (stays e ws w all.0 stands))
 
--- The chain that has the kept octets of an era: its blocks, the octets that go inwards by it, and what a segment adds.
+-- The chain that has the kept octets of an era: its blocks, the octets that go inwards by it, and
+-- what a segment adds.
 
 -- A chain that has the octets kept of an era has its blocks.
 

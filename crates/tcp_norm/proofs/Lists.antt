@@ -1,4 +1,5 @@
--- Lists split at an element, filtered, or equal at each index; how many numbers of a range pass a test.
+-- Lists split at an element, filtered, or equal at each index; how many numbers of a range pass a
+-- test.
 use Rattle.std.proofs.Common.{◌≡◌, Bool, true, false, cond, List, [], ◌∷◌, ◌++◌, map, Some, None, refl, ap, ◌∙◌, ℕ, ◌==◌, ◌||◌, not, sym, ap₂, arith, ◌<◌, subst, filter, ◌≢◌, ◌+◌, length, ◌≤◌, ◌&&◌, ◌↔◌, zero, suc}
 use Rattle.std.specs.List.{AllByRecursion, find, AllPairs, list_any, count_by, range_with_len}
 use Rattle.std.proofs.lemmas.List.Elements.{recursion_from_All, All-from_recursion}
@@ -26,12 +27,12 @@ module _ {X : Type 0} where
   pairs_rest R (x ∷ xs) y ys pairs =
       (all_join (R x) xs ys (all_before (R x) xs (y ∷ ys) pairs.0) (all_after (R x) xs (y ∷ ys) pairs.0).1, pairs_rest R xs y ys pairs.1)
 
-  -- with an element behind
+  -- followed by one more element
   pub pairs_push : (R : X → X → Type 0) (xs : List X) (y : X) → Pairwise R xs → AllByRecursion (λ x. R x y) xs → Pairwise R (xs ++ y ∷ [])
   pairs_push R [] y pairs all = (tt, tt)
   pairs_push R (x ∷ xs) y pairs all = (all_join (R x) xs (y ∷ []) pairs.0 (all.0, tt), pairs_push R xs y pairs.1 all.1)
 
-  -- the first that passes, behind those that do not
+  -- the first that passes, after those that do not
   pub find_split : (p : X → Bool) (xs : List X) (y : X) (ys : List X) → AllByRecursion (λ x. p x ≡ false) xs → p y ≡ true → find p (xs ++ y ∷ ys) ≡ Some y
   find_split p [] y ys none passes = ap (λ b. cond b (Some y) (find p ys)) passes
   find_split p (x ∷ xs) y ys none passes = ap (λ b. cond b (Some x) (find p (xs ++ y ∷ ys))) none.0 ∙ find_split p xs y ys none.1 passes
@@ -54,7 +55,7 @@ pub all_unmap : {X Y : Type 0} (P : Y → Type 0) (f : X → Y) (xs : List X) �
 all_unmap P f [] all = tt
 all_unmap P f (x ∷ xs) all = (all.0, all_unmap P f xs all.1)
 
--- what holds of each holds of these
+-- what holds for each holds for these
 pub everywhere : {X : Type 0} (P : X → Type 0) (xs : List X) → ((x : X) → P x) → AllByRecursion P xs
 everywhere P [] each = tt
 everywhere P (x ∷ xs) each = (each x, everywhere P xs each)
@@ -134,7 +135,7 @@ key_left entries slot key inside slots keys is =
 -- Lists of which a filter lets some through.
 
 module _ {X : Type 0} where
-  -- what holds of those that pass
+  -- what holds for those that pass
   pub all_passed : (P : X → Type 0) (p : X → Bool) (xs : List X) → AllByRecursion (λ x. p x ≡ true → P x) xs → AllByRecursion P (filter p xs)
   all_passed P p [] all = tt
   all_passed P p (x ∷ xs) all = cases (p x) refl (all_passed P p xs all.1)
@@ -177,7 +178,7 @@ module _ {X : Type 0} where
   pairs_alone R [] pairs = tt
   pairs_alone R (x ∷ xs) pairs = (all_weaker (λ y. ⊥) (R x) (λ y never. absurd never) xs pairs.0, pairs_alone R xs pairs.1)
 
-  -- what is found is one of them, and passes
+  -- the found element is one of them, and passes
   pub found_is : (P : X → Type 0) (p : X → Bool) (xs : List X) (y : X) → AllByRecursion P xs → find p xs ≡ Some y → P y × (p y ≡ true)
   found_is P p [] y all found = cc
   found_is P p (x ∷ xs) y all found = cases (p x) refl found (found_is P p xs y all.1)
@@ -197,7 +198,8 @@ among_is P (x ∷ xs) n all e = cases (x == n) refl e (among_is P xs n all.1)
 
 -- Whether two numbers are the same.
 
--- How what the table and the store represent changes: an entry is taken out, the rest goes on, and an entry is added. Every call is made of these.
+-- How what the table and the store represent changes: an entry is taken out, the rest goes on, and
+-- an entry is added. Every call is made of these.
 
 pub number_other : (m n : ℕ) → m ≢ n → (m == n) ≡ false
 number_other m n ne = grind arith
@@ -207,7 +209,7 @@ number_same n = grind arith
 
 -- How many numbers of a range pass a test.
 
--- How many numbers of a range pass a test, by what they pass else.
+-- How many numbers of a range pass a test, by the other tests that they pass.
 
 -- the number is one of these
 abbrev pub among : List ℕ → ℕ → Bool

@@ -1,4 +1,5 @@
--- A four-tuple's live era is the one last begun for it and not ended, and the one that the table finds.
+-- A four-tuple's live era is the one last begun for it and not ended, and the one that the table
+-- finds.
 use Rattle.std.proofs.Common.{◌≡◌, ◌≢◌, true, false, is_some, List, ◌∷◌, map, Option, Some, None, refl, sym, ap, ◌∙◌, arith, ℕ, ◌+◌, ◌==◌, ◌≤◌, ◌||◌, not, Bool, cond, length, ◌<◌, [], ◌++◌, filter, subst, IfSome, IsNone, ◌↔◌}
 use Rattle.std.specs.List.{AllPairs, find, AllByRecursion}
 use Rattle.std.proofs.lemmas.List.Elements.{recursion_from_All, filter-append}
@@ -71,10 +72,12 @@ live_is entries eras key (Some slot) slots keys shown inside same none =
 
 -- Each live era is the one last begun for its four-tuple and not ended.
 
--- Each live era is the one last begun for its four-tuple and not ended: a call keeps this true, by what it does to the eras.
+-- Each live era is the one last begun for its four-tuple and not ended: a call keeps this true, by
+-- what it does to the eras.
 
--- What a call does to the eras: those that end were given; one that it begins is the next, written in by it, and no live era of its four-tuple is
--- left; one that it writes in is the one last begun for its four-tuple, and goes on.
+-- What a call does to the eras. Those that end were given. One that it begins is the next, it
+-- writes in it, and no live era of its four-tuple is left. One that it writes in is the one last
+-- begun for its four-tuple, and continues.
 pub record Effect (cs : List Call) (c : Call) : Type 0 where
   pub ended_given : (n : ℕ) → is_among (ended_by c) n ≡ true → n ≤ begun_in cs
   pub begun_next : (k : FlowKey) (n : ℕ) → begun_for k c ≡ Some n → n ≡ begun_in cs + 1
@@ -89,7 +92,8 @@ pub record Effect (cs : List Call) (c : Call) : Type 0 where
   pub writes : (n : ℕ) → writes_in n c ≡ is_among (numbers_of (touched_by c)) n
   pub among : AllByRecursion (λ a. is_among (numbers_of (touched_by c)) a.number ≡ true) (touched_by c)
 
--- What holds of the calls so far: numbers are given once, in their order, only given ones end, and the live eras are those last begun and not ended.
+-- What holds for the calls so far: numbers are given once, in their order, only given ones end, and
+-- the live eras are those last begun and not ended.
 pub record Lasts (cs : List Call) : Type 0 where
   pub given : (k : FlowKey) (n : ℕ) → last_begun k cs ≡ Some n → n ≤ begun_in cs
   pub once : (j k : FlowKey) (n : ℕ) → last_begun j cs ≡ Some n → last_begun k cs ≡ Some n → j ≡ k
@@ -321,9 +325,9 @@ lasts_next cs c f s = record {
   whole = λ k n none is. whole_next cs c f s k n (subst (AllByRecursion (λ (a : Alive). a.key ≢ k)) (eras_next cs c) none) is;
 }
 
--- What is live is what was begun last and has not ended.
+-- The live eras are those that were begun last and have not ended.
 
--- what is live is the last begun, and has not ended
+-- a live era is the last begun, and has not ended
 pub live_last : (cs : List Call) → Lasts cs → (key : FlowKey) (era : ℕ) → number_of (live cs key) ≡ Some era → (last_begun key cs ≡ Some era) × (has_ended era cs ≡ false)
 live_last cs s key era is = cases (live cs key) refl is
   where

@@ -39,7 +39,8 @@ use Rattle.wire_base.specs.declared.address.Side.{Side}
 use Rattle.std.specs.Prelude.{filter}
 use Rattle.tcp_norm.proofs.HeaderRules.{one_more}
 
--- What becomes of an outbound datagram: it goes out, with its sum corrected where that is wrong and left to the sender's interface.
+-- What becomes of an outbound datagram: it goes out, with its checksum corrected where that is
+-- wrong and left to the sender's interface.
 
 -- of the rules that rewrite only T_SUM_OUT may hold
 others : (settings : PlainSettings) (v : View) (d : Datagram) → goes_in d.side ≡ false → filter (holds_era settings v d) (header_mends ++ (bare_mends ++ stream_mends)) ≡ []
@@ -139,7 +140,7 @@ sends_it packet link d s key out is keyed reads =
       segment_is = ap₂ read side is.octets ∙ sym reads;
     }
 
--- the sum is wrong where the header's fields say so
+-- the checksum is wrong where the header's fields report it
 pub sum_wrong : (settings : PlainSettings) (offload : Bool) (packet : IpPacket) (link : List ℕ) (d : Datagram) (head : Tcp) → offload ≡ settings.offload → packet.side ≡ Outward → IsDatagram packet link d
     → head ≡ fields_of (pseudo_sum packet.head.src.0 packet.head.dst.0 6 (length packet.payload.now)) packet.payload.now
     → t_sum_out settings d ≡ (offload && not head.sum_right)
@@ -149,7 +150,8 @@ sum_wrong settings offload packet link d head same out is fields =
     ∙ (λ k. (sym same) k && not (sum_is_right (is.octets k) (pseudo_sum (is.head k).src.0 (is.head k).dst.0 6 (length (is.octets k)))))
     ∙ ap (λ (h : Tcp). offload && not h.sum_right) (sym fields)
 
--- The frame of a datagram that passes: an outbound one with its checksum corrected, and one that no rule rewrites.
+-- The frame of a datagram that passes: an outbound one with its checksum corrected, and one that no
+-- rule rewrites.
 
 pub frame_mended : (settings : PlainSettings) (d : Datagram) (ws : List Written) (packet : IpPacket) (link : List ℕ) (rows : List Rule) (ip : Ipv4) → goes_in d.side ≡ false → IsDatagram packet link d
     → ip ≡ head_sent settings d → (length rows == 0) ≡ false

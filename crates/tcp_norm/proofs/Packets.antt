@@ -1,4 +1,5 @@
--- The packets sent for a datagram, probes and its own: fields fit their widths, those inwards are plain.
+-- The packets sent for a datagram, probes and its own: fields fit their widths, those inwards are
+-- plain.
 use Rattle.std.proofs.Common.{◌≡◌, ℕ, ◌+◌, ◌-◌, ◌%◌, ◌^◌, ◌<◌, ◌≤◌, Bool, cond, List, length, pos, ◌+ℤ◌, arith, ◌&&◌, not, true, false, [], ◌∷◌, ◌++◌, Option, Some, None, refl, ◌||◌, take, max, min, ℤ, negsuc, inl, inr, sym, ap, ap₂, subst, ◌∙◌, slice_index, nat_lt, length-take-le, length-drop}
 use Rattle.std.specs.List.{AllByRecursion}
 use Rattle.std.proofs.lemmas.Int.{ints}
@@ -89,7 +90,7 @@ stream_fits ws d real words few size =
 
 -- The packets sent for a datagram: probes and its own; those that go inwards are plain.
 
--- What holds of each packet that goes out for a datagram: probes, and its own.
+-- What holds for each packet that goes out for a datagram: probes, and its own.
 
 of_probe : (P : Packet → Type 0) (settings : PlainSettings) (d : Datagram) → ((probe : Probe) → P (probe_packet settings d probe)) → (probe : Option Probe) → AllByRecursion P (probe_packets settings d probe)
 of_probe P settings d probes None = tt
@@ -173,7 +174,7 @@ stream_fits_here cleans settings ws d s =
     let short = s.known.short in
     stream_fits ws d (bits settings d s) p.words p.few (omega (arith, p.whole, few, short))
 
--- what goes out of the segment fits behind a header of 20 octets
+-- what goes out of the segment fits after a header of 20 octets
 sent_short : CleansOctets → MendedSayTheSame → (settings : PlainSettings) (ws : List Written) (d : Datagram) → IsSegment settings d → (mended : List Rule) → length (segment_sent ws d mended) ≤ 65515
 sent_short cleans mends settings ws d s [] = s.known.short
 sent_short cleans mends settings ws d s (rule ∷ more) = side (goes_in d.side)

@@ -1,4 +1,5 @@
--- What is sent of a payload: all where no rule touches it, else the octets in the kept interval, or none.
+-- What is sent of a payload: all where no rule touches it, else the octets in the kept interval, or
+-- none.
 use Rattle.std.proofs.Common.{◌++◌, ◌≡◌, ℕ, ◌&&◌, ◌||◌, not, Bool, true, false, cond, List, [], ◌∷◌, length, filter, find, Option, Some, None, is_some, refl, sym, ap, ap₂, ◌∙◌, arith, map, inl, inr, pos, ◌-ℤ◌, subst, nat_lt}
 use Rattle.std.specs.List.{AllByRecursion, list_any}
 use Rattle.std.proofs.lemmas.Bool.{false≢true, and_right, or_parts}
@@ -42,7 +43,8 @@ use Rattle.tcp_norm.proofs.HeldBlocks.{Laws, Stands, own_stands, anew_stands}
 use Rattle.tcp_norm.proofs.Connections.{get_none}
 use Rattle.linked_table.proofs.Lists.{all_after}
 
--- A datagram on which no rule holds that touches a payload: one packet is sent, which carries what its segment does.
+-- A datagram on which no rule holds that touches a payload: one packet is sent, which carries what
+-- its segment does.
 
 -- a rule that is not named does not hold
 unnamed : (t p : Rule → Bool) (xs : List Rule) → list_any t (filter p xs) ≡ false → AllByRecursion (λ x. t x ≡ true → p x ≡ false) xs
@@ -78,7 +80,8 @@ clean p none =
       clash = each.1.1.1.1.1.0 refl;
     }
 
--- the packets of a datagram that no rule drops, by whether a host is asked about it, and whether it is a RST to a live era
+-- the packets of a datagram that no rule drops, by whether a host is asked about it, and whether it
+-- is a RST to a live era
 abbrev pub packets_if : PlainSettings → View → Datagram → (mended : List Rule) → (asked reset : Bool) → List Packet
 packets_if settings v d mended asked reset =
     let w = segment_in d in
@@ -101,7 +104,8 @@ alone settings v d mended none =
     none_behind true number None w e = refl
     none_behind true number (Some x) w e = cc
 
--- an inbound segment with neither SYN nor RST that no rule drops and no probe replaces is of the stream of a live era
+-- an inbound segment with neither SYN nor RST that no rule drops and no probe replaces is of the
+-- stream of a live era
 pub record Streams (v : View) (w : Written) : Type 0 where
   pub live : is_live v ≡ true
   pub stream : era.is_of_stream v.segments w ≡ true
@@ -180,9 +184,11 @@ keeps_payload back cleans intervals same settings v d is passes none =
       whole = λ unfixed unmended. ap₂ (packet_by settings v.segments d) unfixed unmended;
     }
 
--- What a call of a datagram writes: segments that bring no octet, or one whose octets are in the kept interval.
+-- What a call of a datagram writes: segments that bring no octet, or one whose octets are in the
+-- kept interval.
 
--- What is written: nothing that brings an octet, or, in a live era and where T_QUOTA and T_ROOM do not hold, one frame.
+-- What is written: nothing that brings an octet, or, in a live era and where T_QUOTA and T_ROOM do
+-- not hold, one frame.
 pub data Writes (settings : PlainSettings) (v : View) (d : Datagram) (more : List Written) : Type 0 where
   silent : AllByRecursion BringsNone more → Writes settings v d more
   framed : (frame : Written) → more ≡ frame ∷ [] → Streams v (segment_in d) → t_quota settings v (segment_in d) ≡ false → t_room v (segment_in d) ≡ false

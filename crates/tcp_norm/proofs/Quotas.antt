@@ -1,4 +1,5 @@
--- No era holds more blocks than its quota, nor all together more than there are; then T_ROOM drops nothing.
+-- No era holds more blocks than its quota, nor all together more than there are; then T_ROOM drops
+-- nothing.
 use Rattle.std.proofs.Common.{◌≡◌, ℕ, ◌+◌, ◌*◌, ◌/◌, ◌%◌, ◌==◌, ◌<◌, ◌≤◌, Bool, true, false, cond, List, length, get_or, Option, Some, None, is_some, inl, inr, refl, sym, ap, subst, ◌∙◌, arith, ◌≢◌, ◌-◌, ◌&&◌, find, ap₂, not, [], ◌∷◌, ◌++◌, filter, nat_lt, append-nil}
 use Rattle.std.specs.List.{count_by, range_with_len, AllByRecursion, sum_by}
 use Rattle.std.proofs.lemmas.Bool.{cases_eq, not-true, and_parts}
@@ -38,7 +39,8 @@ use Rattle.linked_table.specs.Table.{Entry}
 use Rattle.tcp_norm.specs.declared.flow.Flow.{Flow}
 use Rattle.tcp_norm.specs.declared.key.EraKey.{EraKey}
 
--- No era holds more cells than the quota allows; where all eras together have theirs, T_ROOM drops nothing.
+-- No era holds more cells than the quota allows; where all eras together have theirs, T_ROOM drops
+-- nothing.
 
 -- No chain grows above the quota.
 
@@ -159,7 +161,8 @@ never_for_room settings cs d most each few is ample drops =
         let product = mul-le-mul_right most few in
         omega (arith, held, lt, fits, sum, product, ample)
 
--- What is held after calls that the rules make: no more blocks than there are cells, and of no era more than the quota.
+-- What is held after calls that the rules make: no more blocks than there are cells, and of no era
+-- more than the quota.
 
 -- an era in which the call does not write
 same_in : (cs : List Call) (c : Call) (n : ℕ) → writes_in n c ≡ false → segments n (c ∷ cs) ≡ segments n cs
@@ -174,7 +177,7 @@ seen settings cs d n is = cases (live cs (key_of d)) refl is
     cases None e named = cc
     cases (Some a) e named = let number : a.number ≡ n = cc in (a, e, number)
 
--- what is held of an era, before and after, and the cells that it takes
+-- what is held for an era, before and after, and the cells that it takes
 record Room (settings : PlainSettings) (cs : List Call) (old new : ℕ) : Type 0 where
   more : ℕ
   grows : new ≤ old + more
@@ -189,7 +192,7 @@ no_more settings cs old new le = record {
   quota = λ was most is. let under = was most is in omega (arith, le, under);
 }
 
--- what is held of an era after the call of a datagram
+-- what is held for an era after the call of a datagram
 abbrev held_after : PlainSettings → List Call → (now n : ℕ) → Datagram → ℕ
 held_after settings cs now n d = held_of (segments n (call_of settings cs now d ∷ cs))
 

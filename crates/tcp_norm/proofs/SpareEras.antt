@@ -1,4 +1,5 @@
--- The era that is evicted holds nothing, and is the one least recently touched of those that hold nothing.
+-- The era that is evicted holds nothing, and is the one least recently touched of those that hold
+-- nothing.
 use Rattle.std.proofs.Common.{◌≡◌, ◌≢◌, true, false, List, ◌∷◌, map, Option, Some, None, refl, sym, ap, ◌∙◌, arith, ℕ, ◌==◌, Bool, cond, ◌++◌, length, filter, subst, suc, ◌<◌, not, ap₂, if◌then◌else◌, eq-eqb, ne_eqb, []}
 use Rattle.std.specs.List.{AllPairs, AllByRecursion, sum_by, All}
 use Rattle.std.proofs.lemmas.List.Elements.{recursion_from_All, filter-append}
@@ -74,7 +75,7 @@ pub first_none : (lives : List Alive) (segments : ℕ → List Written) (begun :
 first_none lives segments begun entries store h none =
     ap (λ l. evicted_of segments (head_of l)) (ap (filter (λ (a : Alive). held_of (segments a.number) == 0)) (sym h.eras_are) ∙ none_found segments store entries h.each none)
 
--- the first of the listed slots: of the entry that holds nothing, behind those that hold something
+-- the first of the listed slots: of the entry that holds nothing, after those that hold something
 pub record IsFirstSpare (store : Store) (entries : List (Entry EraKey Flow)) (slot : Slot) : Type 0 where
   pub before : List (Entry EraKey Flow)
   pub entry : Entry EraKey Flow
@@ -192,7 +193,7 @@ others-own store slot e same = ap (λ l. others l slot) (spares-cons store e [])
 others-join : (slots more : List Slot) (slot : Slot) → others (slots ++ more) slot ≡ others slots slot ++ others more slot
 others-join slots more slot = filter-append (λ (s : Slot). not (s.0 == slot.0)) slots more
 
--- the slot behind others, where its chain has no block
+-- the slot after others, where its chain has no block
 settled-last : (new : Store) (e : Entry EraKey Flow) (slot : Slot) (rest : List (Entry EraKey Flow)) (slots : List Slot) → e.slot ≡ slot → others slots slot ≡ spares new rest
     → spares new (rest ++ e ∷ []) ≡ settled new slot slots
 settled-last new e slot rest slots same is =
@@ -231,7 +232,7 @@ spares-touched store new entries slot value inside slots keys chains =
     ap (spares new) (put_touch entries slot a value)
     ∙ settled-last new (record a.here { value = value }) slot (a.before ++ a.after) (spares store entries) a.named (others-rest store new entries slot a chains)
 
--- an entry is added behind the others
+-- an entry is added after the others
 pub spares-added : (store : Store) (entries : List (Entry EraKey Flow)) (e : Entry EraKey Flow) → IsNotIn entries e.slot → spares store (entries ++ e ∷ []) ≡ settled store e.slot (spares store entries)
 spares-added store entries e fresh =
     settled-last store e e.slot entries (spares store entries) refl (others-apart store e.slot entries (recursion_from_All (λ (f : Entry EraKey Flow). f.slot ≢ e.slot) entries fresh))

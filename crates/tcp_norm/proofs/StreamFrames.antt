@@ -1,4 +1,5 @@
--- The frame of a stream's segment: the octets of its interval, those that went in first, and its FIN.
+-- The frame of a stream's segment: the octets of its interval, those that went in first, and its
+-- FIN.
 use Rattle.std.proofs.Common.{◌≡◌, ℕ, ◌+◌, ◌<◌, Bool, true, false, cond, List, length, None, arith, pos, ◌-◌, ◌≤◌, ◌==◌, not, ◌∷◌, ◌++◌, map, take, drop, ℤ, ◌+ℤ◌, ◌-ℤ◌, refl, sym, ap, ap₂, ◌∙◌, add-one, length-append, zero, suc, ◌%◌, ◌^◌, ◌&&◌, ◌||◌, Option, Some, negsuc, ◌*ℤ◌, subst, [], unwrap_or, nat_lt, slice_index, ◌↔◌, int_lt}
 use Rattle.std.specs.List.{range_with_len, list_any, AllByRecursion}
 use Rattle.std.proofs.lemmas.Grind.{common_steps}
@@ -33,7 +34,8 @@ use Rattle.tcp_norm.specs.Laws.{WritesFrame}
 use Rattle.tcp_norm.proofs.StreamRules.{OfStream, anew_is_frame}
 use Rattle.tcp_norm.proofs.Lists.{same_step, tests_agree}
 
--- The octets of a segment of the stream that go out: the chain's where it has some, else the segment's own.
+-- The octets of a segment of the stream that go out: the chain's where it has some, else the
+-- segment's own.
 
 -- The octets that go inwards, by the octets of the chain and the segment's own.
 
@@ -65,7 +67,8 @@ above_acked ws lo i above =
     let test : nat_lt (lo + i) (acked (base_at ws) ws) ≡ false = grind (arith, nat_tests, above) in
     ap (λ t. cond t None (first (base_at ws) ws (pos (lo + i)))) test
 
--- the octet that goes out at an offset is the one of the chain, and where it has none the segment's own
+-- the octet that goes out at an offset is the one of the chain, and where it has none the segment's
+-- own
 sent_at : (e : WarmEra) (ws : List Written) (w : Written) (kept : Interval) (blocks : List Block) (own : List ℕ)
     → WarmFor e ws → KeptOf ws w kept → Keeps blocks ws
     → ((i : ℕ) → i < kept.hi - kept.lo → slice_index own i ≡ slice_index w.octets (nat_of (pos (kept.lo + i) -ℤ off e.base e.acked w.seq)))
@@ -266,7 +269,8 @@ verbatim reads place ws w i pinned is f fits below window end =
       sequence_is = own_sequence reads (base_at ws) (acked (base_at ws) ws) place b at w.seq (length w.octets) (tcp.has_fin w.flags) (sym pinned) refl fits o;
     }
 
--- What is written of a segment of the stream is the frame of its interval, with the octets that went in first.
+-- What is written of a segment of the stream is the frame of its interval, with the octets that
+-- went in first.
 
 -- where none is named, none holds
 pub empty_left : (xs ys : List Rule) → xs ++ ys ≡ [] → (xs ≡ []) × (ys ≡ [])

@@ -1,4 +1,5 @@
--- Which rules hold of an inbound segment of the stream, which drops it, and what is rewritten under them.
+-- Which rules apply to an inbound segment of the stream, which drops it, and what is rewritten
+-- under them.
 use Rattle.std.proofs.Common.{◌≡◌, ◌&&◌, ◌||◌, not, Bool, true, false, cond, List, [], ◌∷◌, ◌++◌, Some, None, refl, sym, ap, ap₂, ◌∙◌, ℕ, zero, suc, ◌+◌, ◌-◌, ◌/◌, ◌%◌, ◌==◌, length, map, arith, ◌<◌, ◌^◌, subst, filter}
 use Rattle.std.specs.List.{range_with_len}
 use Rattle.std.proofs.lemmas.Bool.{and_parts}
@@ -35,7 +36,8 @@ use Rattle.std.proofs.lemmas.List.Elements.{filter-append}
 use Rattle.tcp_norm.proofs.HeaderRules.{flags_stay, header_are, header_mended, one_more, other_flag, those_are}
 use Rattle.linked_table.proofs.Lists.{filter_none}
 
--- What the rules say of an inbound segment of the stream: T_QUOTA or T_ROOM alone may drop it, and those that may rewrite it are seven.
+-- What the rules say of an inbound segment of the stream: T_QUOTA or T_ROOM alone may drop it, and
+-- those that may rewrite it are seven.
 
 -- what is known of a segment of the stream
 pub record OfStream (ws : List Written) (w : Written) : Type 0 where

@@ -1,4 +1,5 @@
--- An inbound SYN or RST: what is ruled of it, reported and written, by what is live of its connection.
+-- An inbound SYN or RST: what is ruled of it, reported and written, by what is live of its
+-- connection.
 use Rattle.std.proofs.Common.{◌≡◌, ℕ, ◌+◌, ◌%◌, Bool, true, false, List, length, arith, ◌&&◌, ◌||◌, not, ◌∷◌, map, Option, Some, None, is_some, refl, sym, ap, ap₂, subst, ◌∙◌, ◌==◌, cond, [], take, ◌-◌, nat_lt}
 use Rattle.std.specs.List.{AllByRecursion}
 use Rattle.wire_base.specs.Tcp as tcp
@@ -55,7 +56,8 @@ use Rattle.tcp_norm.proofs.Connections as connections
 
 -- An inbound SYN or RST as it is written.
 
--- An inbound SYN or RST as it is written, and what holds of it by what was asked of the calls before.
+-- An inbound SYN or RST as it is written, and what holds for it by what was asked of the calls
+-- before.
 
 -- where no host is asked about it, it has SYN or RST
 pub called_marked : (v : View) (w : Written) → w.inward ≡ true → is_asked w ≡ false → (tcp.has_syn w.flags || tcp.has_rst w.flags) ≡ true

@@ -9,7 +9,8 @@ use Rattle.tcp_norm.specs.Emits.{without_flag, flags_cleared}
 use Rattle.tcp_norm.specs.declared.arrival.Arrival.{Arrival}
 use Rattle.tcp_norm.specs.declared.ruling.Passage.{Passage}
 
--- with its ports, acknowledgment and window; its urgent marks are 0, and its FIN is left out where it is not kept
+-- with its ports, acknowledgment and window; its urgent marks are 0, and its FIN is left out where
+-- it is not kept
 abbrev pub anew_segment : Ipv4 → Tcp → (sequence : ℕ) (fin : Bool) (options octets : List ℕ) → Segment
 anew_segment ip head sequence fin options octets =
     record {

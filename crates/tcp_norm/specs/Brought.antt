@@ -1,4 +1,5 @@
--- Which datagrams brought the octets of an era's stream, and which of them contradict each other (this project's profile).
+-- Which datagrams brought the octets of an era's stream, and which of them contradict each other
+-- (this project's profile).
 use Rattle.std.specs.Prelude.{◌≡◌, ◌≢◌, ◌↔◌, ℕ, ◌&&◌, Bool, true, false, List, ◌∷◌, ◌++◌, length, ℤ, pos, ◌+ℤ◌, ◌≤ℤ◌, Some, None, is_none, slice_get}
 use Rattle.wire_base.specs.Tcp as tcp
 use Rattle.wire_base.specs.Segments.{Written}
@@ -13,8 +14,9 @@ use Rattle.tcp_norm.specs.Rows.{dropped_by, t_clash}
 use Rattle.tcp_norm.specs.Outcomes.{call_of, outcome_at}
 use Rattle.tcp_norm.specs.Segments.{AreOfSegments}
 
--- The base is fixed, and the segment, which has neither SYN nor RST, has this octet at an index of its payload; the offset is that of its sequence number, read
--- relative to Acked of the segments written so far, plus the index.
+-- The base is fixed, and the segment, which has neither SYN nor RST, has this octet at an index of
+-- its payload. The offset is that of its sequence number, read relative to Acked of the segments
+-- written so far, plus the index.
 pub record HasAt (base : ℕ) (offset : ℤ) (octet : ℕ) (ws : List Written) (w : Written) : Type 0 where
   pub based : base_of ws ≡ Some base
   pub no_syn : tcp.has_syn w.flags ≡ false
@@ -23,8 +25,8 @@ pub record HasAt (base : ℕ) (offset : ℤ) (octet : ℕ) (ws : List Written) (
   pub has : slice_get w.octets index ≡ Some octet
   pub offset_is : offset ≡ (off base (acked base ws) w.seq +ℤ pos index)
 
--- The base is fixed, and the segment, which has neither SYN nor RST, has FIN; the offset is that of its sequence number, read in the same way, plus the number of
--- its octets.
+-- The base is fixed, and the segment, which has neither SYN nor RST, has FIN. The offset is that of
+-- its sequence number, read in the same way, plus the number of its octets.
 pub record EndsAt (base : ℕ) (offset : ℤ) (ws : List Written) (w : Written) : Type 0 where
   pub based : base_of ws ≡ Some base
   pub no_syn : tcp.has_syn w.flags ≡ false
@@ -32,7 +34,8 @@ pub record EndsAt (base : ℕ) (offset : ℤ) (ws : List Written) (w : Written) 
   pub has_fin : tcp.has_fin w.flags ≡ true
   pub offset_is : offset ≡ (off base (acked base ws) w.seq +ℤ pos (length w.octets))
 
--- A datagram brings this to an era after these calls: it went inwards, was written in the era, and its own segment has it, after the segments written before.
+-- A datagram brings this to an era after these calls: it went inwards, was written in the era, and
+-- its own segment has it, after the segments written before.
 pub record Brings (era : ℕ) (Has : List Written → Written → Type 0) (asked : Datagram) (outcome : Outcome) (older : List Call) : Type 0 where
   pub inward : goes_in asked.side ≡ true
   pub named : outcome.era ≡ Some era
@@ -49,7 +52,8 @@ pub record IsBrought (era : ℕ) (Has : List Written → Written → Type 0) (cs
   pub calls_are : cs ≡ newer ++ (datagram now asked outcome ∷ older)
   pub brings : Brings era Has asked outcome older
 
--- a datagram brings what is new with these segments: the octet at an offset that had none, and the end if none was known
+-- a datagram brings what is new with these segments: the octet at an offset that had none, and the
+-- end if none was known
 pub record BringsNew (era base : ℕ) (d : Datagram) (outcome : Outcome) (older : List Call) (more : List Written) : Type 0 where
   pub octets :
       (offset : ℤ) (octet : ℕ) → first base (segments era older) offset ≡ None → first base (segments era older ++ more) offset ≡ Some octet
@@ -58,7 +62,7 @@ pub record BringsNew (era base : ℕ) (d : Datagram) (outcome : Outcome) (older 
       (offset : ℤ) → end_of base (segments era older) ≡ None → end_of base (segments era older ++ more) ≡ Some offset
       → Brings era (EndsAt base offset) d outcome older
 
--- this holds of the call of each datagram
+-- this holds for the call of each datagram
 abbrev pub NewIsBrought : Type 0
 NewIsBrought =
     (settings : PlainSettings) (cs : List Call) (now : ℕ) (d : Datagram) → AreOfSegments settings (call_of settings cs now d ∷ cs)
@@ -70,13 +74,14 @@ pub record AreBrought (era base : ℕ) (cs : List Call) : Type 0 where
   pub octets : (offset : ℤ) (octet : ℕ) → first base (segments era cs) offset ≡ Some octet → IsBrought era (HasAt base offset octet) cs
   pub end : (offset : ℤ) → end_of base (segments era cs) ≡ Some offset → IsBrought era (EndsAt base offset) cs
 
--- Nothing is invented: this holds of each era whose base is fixed.
+-- Nothing is invented: this holds for each era whose base is fixed.
 abbrev pub NothingIsInvented : Type 0
 NothingIsInvented =
     (settings : PlainSettings) (cs : List Call) → AreOfSegments settings cs
     → (era base : ℕ) → base_of (segments era cs) ≡ Some base → AreBrought era base cs
 
--- A datagram contradicts the stream of an era: at an offset at or past Acked where the era has an octet, it brings another one.
+-- A datagram contradicts the stream of an era: at an offset at or past Acked where the era has an
+-- octet, it brings another one.
 pub record Contradicts (d : Datagram) (outcome : Outcome) (older : List Call) : Type 0 where
   pub era : ℕ
   pub base : ℕ
@@ -88,11 +93,12 @@ pub record Contradicts (d : Datagram) (outcome : Outcome) (older : List Call) : 
   pub brings : Brings era (HasAt base offset other) d outcome older
   pub differ : octet ≢ other
 
--- T_CLASH holds of a datagram, which no rule drops
+-- T_CLASH holds for a datagram, which no rule drops
 abbrev pub is_clashing : PlainSettings → View → Datagram → Bool
 is_clashing settings v d = is_none (dropped_by settings v d) && t_clash v (segment_in d)
 
--- T_CLASH is exact: it holds of a datagram that no rule drops exactly if the datagram contradicts the stream of its era.
+-- T_CLASH is exact: it holds for a datagram that no rule drops exactly if the datagram contradicts
+-- the stream of its era.
 abbrev pub ClashesAreReal : Type 0
 ClashesAreReal =
     (settings : PlainSettings) (cs : List Call) (now : ℕ) (d : Datagram) → AreOfSegments settings (call_of settings cs now d ∷ cs)

@@ -1,4 +1,5 @@
--- What is asked of connections, call by call, and what became of it (this project's profile). Lists of calls have the newest at the head.
+-- What is asked of connections, call by call, and what became of it (this project's profile). Lists
+-- of calls have the newest at the head.
 use Rattle.std.specs.Prelude.{ℕ, ◌+◌, ◌==◌, ◌&&◌, max, not, Bool, true, false, List, [], ◌∷◌, ◌++◌, map, filter, Option, Some, None, is_some, find, if◌then◌else◌}
 use Rattle.std.specs.List.{list_any}
 use Rattle.wire_base.specs.declared.address.Side.{Side}
@@ -14,7 +15,8 @@ use Rattle.rule_book.specs.declared.entry.Ended.{Ended}
 use Rattle.rule_book.specs.declared.entry.Verdict.{Verdict}
 use Rattle.rule_book.specs.declared.entry.Verdict.TheVariants as verdicts
 
--- what became of a datagram: what its record's entry says, the eras that ended with it in their order, and the packets that went out
+-- what became of a datagram: what its record's entry says, the eras that ended with it in their
+-- order, and the packets that went out
 pub record Outcome : Type 0 where
   pub verdict : Verdict
   pub rules : List Rule
@@ -147,8 +149,8 @@ without numbers eras = filter (λ a. not (is_among numbers a.number)) eras
 abbrev pub numbers_of : List Alive → List ℕ
 numbers_of eras = map (λ a. a.number) eras
 
--- The live eras, the least recently touched first: an era is live from the call that begins it, which writes in it, to the one that ends it, and a
--- call that writes in it touches it.
+-- The live eras, the least recently touched first. An era is live from the call that begins it,
+-- which writes in it, to the one that ends it, and a call that writes in it touches it.
 abbrev pub eras : List Call → List Alive
 eras [] = []
 eras (c ∷ cs) = without (ended_by c) (without (numbers_of (touched_by c)) (eras cs) ++ touched_by c)

@@ -1,4 +1,5 @@
--- The packets that go out for a datagram (this project's profile, over RFC 791 and RFC 9293 section 3.1).
+-- The packets that go out for a datagram (this project's profile, over RFC 791 and RFC 9293 section
+-- 3.1).
 use Rattle.std.specs.Prelude.{ℕ, ◌-◌, ◌&&◌, ◌||◌, not, Bool, List, [], ◌∷◌, length, map, Option, Some, None, if◌then◌else◌}
 use Rattle.wire_base.specs.Tcp as tcp
 use Rattle.wire_base.specs.Segments.{Segment, Written}
@@ -25,7 +26,8 @@ without_flag weight flags = if tcp.has_flag weight flags then flags - weight els
 abbrev pub flags_cleared : ℕ → ℕ
 flags_cleared flags = without_flag 32 flags
 
--- the segment rewritten, with these flags, this sequence number and these octets: reserved bits and urgent marks are 0, the options are cleaned
+-- the segment rewritten, with these flags, this sequence number and these octets: reserved bits and
+-- urgent marks are 0, the options are cleaned
 abbrev pub segment_with : Datagram → (sequence flags : ℕ) → List ℕ → Segment
 segment_with d sequence flags octets =
     record {
@@ -62,7 +64,7 @@ stream_segment ws d =
 abbrev pub segment_anew : List Written → Datagram → Segment
 segment_anew ws d = if tcp.has_syn (segment_in d).flags || tcp.has_rst (segment_in d).flags then bare_segment d else stream_segment ws d
 
--- an outbound segment with its sum corrected: nothing else changes
+-- an outbound segment with its checksum corrected: nothing else changes
 abbrev pub sum_mended : Datagram → List ℕ
 sum_mended d = mended (pseudo_of d) d.octets
 
@@ -87,13 +89,15 @@ abbrev pub probe_packets : PlainSettings → Datagram → Option Probe → List 
 probe_packets settings d None = []
 probe_packets settings d (Some probe) = probe_packet settings d probe ∷ []
 
--- the probe that is sent with a datagram that a rule drops: the cold probe under T_STATE, the era probe under T_SYN
+-- the probe that is sent with a datagram that a rule drops: the cold probe under T_STATE, the era
+-- probe under T_SYN
 abbrev pub probe_dropped : View → Datagram → Rule → Option Probe
 probe_dropped v d rules.TState = Some (cold_probe_of (segment_in d))
 probe_dropped v d rules.TSyn = era_probe v.segments (segment_in d)
 probe_dropped v d _ = None
 
--- the packets of a datagram that no rule drops: the cold probe alone where a host is asked about it; else its own, and behind a RST the era probe
+-- the packets of a datagram that no rule drops: the cold probe alone where a host is asked about
+-- it; else its own, and after a RST the era probe
 abbrev pub packets_passed : PlainSettings → View → Datagram → (mended : List Rule) → List Packet
 packets_passed settings v d mended =
     let w = segment_in d in

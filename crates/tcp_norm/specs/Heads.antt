@@ -6,7 +6,7 @@ use Rattle.ipv4_codec.specs.declared.header.Ipv4.{Ipv4}
 use Rattle.tcp_codec.specs.declared.header.Tcp.{Tcp}
 use Rattle.tcp_codec.specs.Header.{fields_of}
 
--- the fields of the octets, with what this header says of the sum
+-- the fields of the octets, with what this header says of the checksum
 abbrev pub seen : List ℕ → Tcp → Tcp
 seen octets head = record (fields_of 0 octets) { sum_right = head.sum_right }
 
@@ -21,7 +21,7 @@ pub record IsHead (octets : List ℕ) (head : Tcp) : Type 0 where
   pub formed : are_well_formed (tcp.options octets) ≡ true
   pub area : slice_range octets 20 head.header ≡ tcp.options octets
 
--- the same of it, but for whether its sum is right
+-- the same of it, but for whether its checksum is right
 pub record IsRead (octets : List ℕ) (head : Tcp) : Type 0 where
   pub fields : head ≡ seen octets head
   pub least : 20 ≤ head.header

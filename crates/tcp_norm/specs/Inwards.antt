@@ -26,7 +26,8 @@ bare_read m =
       octets = [];
     }
 
--- the outcome of a datagram that no rule drops, by what it does to the eras, the rules on its header and on its segment, and its packets
+-- the outcome of a datagram that no rule drops, by what it does to the eras, the rules on its
+-- header and on its segment, and its packets
 abbrev pub passed : Step → (fixes mended : List Rule) → List Packet → Outcome
 passed s fixes mended packets =
     record { verdict = verdict_of (fixes ++ mended); rules = where_holds s.full rules.TFull ++ fixes ++ mended; era = s.era; begun = s.begun; ended = listed s.ended; packets = packets }

@@ -21,7 +21,8 @@ use Rattle.tcp_norm.specs.Writes.{WritesIn}
 abbrev pub of_era : ℕ → List Alive → List Alive
 of_era era lives = filter (λ a. a.number == era) lives
 
--- A call leaves an era as it was: the segments written in it, whether and with which four-tuple and last touch it is live, and so all its quantities.
+-- A call leaves an era as it was: the segments written in it, whether and with which four-tuple and
+-- last touch it is live, and so all its quantities.
 pub record Leaves (era : ℕ) (c : Call) (cs : List Call) : Type 0 where
   pub segments_are : segments era (c ∷ cs) ≡ segments era cs
   pub live_is : of_era era (eras (c ∷ cs)) ≡ of_era era (eras cs)
@@ -30,12 +31,14 @@ pub record Leaves (era : ℕ) (c : Call) (cs : List Call) : Type 0 where
 abbrev pub OthersStay : Type 0
 OthersStay = (era : ℕ) (c : Call) (cs : List Call) → names c era ≡ false → is_among (ended_by c) era ≡ false → Leaves era c cs
 
--- what is written of a segment is the frame of its interval, with First at each offset where that is defined, and else with its own octets
+-- what is written of a segment is the frame of its interval, with First at each offset where that
+-- is defined, and else with its own octets
 pub record WritesFrame (ws : List Written) (w : Written) (i : Interval) (frame : Written) : Type 0 where
   pub framed : IsFrame ws w i frame
   pub octets_are : frame.octets ≡ octets_sent ws w
 
--- A segment of the stream of a live era that the cells and the quota can hold: what becomes of it is written in that era alone, and is the frame of its interval.
+-- A segment of the stream of a live era that the cells and the quota can hold: what becomes of it
+-- is written in that era alone, and is the frame of its interval.
 abbrev pub StreamsAreWritten : Type 0
 StreamsAreWritten =
     (settings : PlainSettings) (v : View) (d : Datagram) (e : Warm) (i : Interval) (era now : ℕ)

@@ -43,7 +43,8 @@ abbrev pub last_touch : (era : ℕ) → List Call → Option ℕ
 last_touch era [] = None
 last_touch era (c ∷ cs) = if writes_in era c then Some (time_of c) else last_touch era cs
 
--- the position of the last call that wrote in the era, where the first call has position 1; 0 where none did
+-- the position of the last call that wrote in the era, where the first call has position 1; 0 where
+-- none did
 abbrev pub touch_place : (era : ℕ) → List Call → ℕ
 touch_place era [] = 0
 touch_place era (c ∷ cs) = if writes_in era c then length cs + 1 else touch_place era cs
@@ -54,8 +55,8 @@ pub record IsLast (cs : List Call) (a : Alive) : Type 0 where
   pub goes_on : has_ended a.number cs ≡ false
   pub touched_is : last_touch a.number cs ≡ Some a.touched
 
--- Live is the era last begun for the four-tuple and not ended. The live eras are these, each once, in the order of the calls that wrote last in them,
--- and each has a number that was given.
+-- Live is the era last begun for the four-tuple and not ended. The live eras are these, each once,
+-- in the order of the calls that wrote last in them, and each has a number that was given.
 pub record LivesAre (cs : List Call) : Type 0 where
   pub live_is : (key : FlowKey) (era : ℕ) → (number_of (live cs key) ≡ Some era) ↔ ((last_begun key cs ≡ Some era) × (has_ended era cs ≡ false))
   pub each : AllByRecursion (IsLast cs) (eras cs)

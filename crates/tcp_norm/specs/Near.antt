@@ -12,7 +12,7 @@ use Rattle.tcp_norm.specs.declared.key.EraKey.{EraKey}
 abbrev pub IsNear : (calls : ℕ) → Era → Type 0
 IsNear calls e = (acked_in e ≤ calls * 2 ^ 31) × (octets_in e ≤ calls * 2 ^ 16)
 
--- this holds of each entry
+-- this holds for each entry
 abbrev pub AreNear : (calls : ℕ) → List (Entry EraKey Flow) → Type 0
 AreNear calls entries = All (λ e. IsNear calls e.value.era) entries
 

@@ -1,4 +1,5 @@
--- What becomes of a datagram, and the one call that it makes after the calls before (this project's profile).
+-- What becomes of a datagram, and the one call that it makes after the calls before (this project's
+-- profile).
 use Rattle.std.specs.Prelude.{ℕ, ◌&&◌, ◌||◌, not, List, [], ◌∷◌, ◌++◌, Option, Some, None, if◌then◌else◌}
 use Rattle.std.specs.Option.{option_or}
 use Rattle.wire_base.specs.Tcp as tcp
@@ -31,8 +32,8 @@ ends (Some era) octets reason = record { era = era; reason = reason; octets = So
 abbrev pub begun_with : View → Written → Option ℕ
 begun_with v w = if (begins v w && not (t_full v w)) || reopens v w then Some v.next else None
 
--- the eras that end with it, with their octets before it: the one of the same connection, where it begins another; the one whose slot a new one
--- needs; the one that an outbound RST ends
+-- The eras that end with it, with their octets before it: the one of the same connection, where it
+-- begins another; the one whose slot a new one needs. Also the one that an outbound RST ends.
 abbrev pub ended_with : View → Written → List Ended
 ended_with v w =
     if reopens v w then ends v.era (octets_of v.segments) reasons.Reopened
@@ -40,7 +41,8 @@ ended_with v w =
     else if not w.inward && tcp.has_rst w.flags then ends v.era (octets_of v.segments) reasons.Reset
     else []
 
--- the outcome of a datagram that a rule drops: it names the era that is live, if one is, and so none under T_COLD and T_FULL
+-- the outcome of a datagram that a rule drops: it names the era that is live, if one is, and so
+-- none under T_COLD and T_FULL
 abbrev pub outcome_dropped : PlainSettings → View → Datagram → Rule → Outcome
 outcome_dropped settings v d rule =
     record {

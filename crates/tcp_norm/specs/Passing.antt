@@ -1,10 +1,11 @@
--- A packet that is handed over, and what its record's entry and the outbox say then.
+-- A packet that is passed to the state, and what its record's entry and the outbox say then.
 use Rattle.std.specs.Prelude.{◌≡◌, ℕ, Bool, true, false, List, [], ◌∷◌, ◌++◌, ◌≤◌, length}
 use Rattle.rule_book.specs.declared.entry.Entry.{Entry}
 use Rattle.tcp_norm.specs.Calls.{Outcome}
 use Rattle.wire_base.specs.declared.limits.TheConstants.{MAX_FRAME}
 
--- the entry says what became of the datagram, and nothing else in it has changed; eras that ended before precede those that ended with it
+-- the entry says what became of the datagram, and nothing else in it has changed; eras that ended
+-- before precede those that ended with it
 pub record Reports (old new : Entry) (o : Outcome) : Type 0 where
   pub number : new.number ≡ old.number
   pub side : new.side ≡ old.side

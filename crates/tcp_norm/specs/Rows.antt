@@ -1,5 +1,6 @@
--- The rules of the rule table on connections, one definition each, in the order of testing, then of naming (this project's profile). A rule is read of a datagram
--- under settings, with what it asks of the calls before.
+-- The rules of the rule table on connections, one definition each, in the order of testing, then of
+-- naming (this project's profile). A rule is read of a datagram under settings, with what it asks
+-- of the calls before.
 use Rattle.std.specs.Prelude.{ℕ, ◌+◌, ◌-◌, ◌==◌, ◌&&◌, ◌||◌, nat_lt, not, Bool, true, false, List, [], ◌∷◌, ◌++◌, length, find, filter, pos, ◌-ℤ◌, Option, Some, None, is_some, is_none, slice_index, if◌then◌else◌}
 use Rattle.std.specs.List.{list_any, range_with_len}
 use Rattle.std.specs.Option.{unwrap_or}
@@ -25,7 +26,8 @@ use Rattle.tcp_norm.specs.Views.{View}
 abbrev pub is_live : View → Bool
 is_live v = is_some v.era
 
--- the offset of the first octet that is sent, and the offset behind the last (both the same, where none goes out)
+-- the offset of the first octet that is sent, and the offset after the last (both the same, where
+-- none goes out)
 abbrev pub low_of : List Written → Written → ℕ
 low_of ws w = low (bounds_of ws) (offset_of ws w.seq)
 
@@ -44,7 +46,8 @@ octet_sent ws w offset = unwrap_or (first (base_at ws) ws (pos offset)) (own_oct
 abbrev pub kept_offsets : List Written → Written → List ℕ
 kept_offsets ws w = range_with_len (low_of ws w) (high_of ws w - low_of ws w)
 
--- an era begins with the segment where none is live: the outside calls, or the inside sends what is no RST
+-- an era begins with the segment where none is live: the outside calls, or the inside sends what is
+-- no RST
 abbrev pub begins_cold : Written → Bool
 begins_cold w = cold.is_call w || (not w.inward && not (tcp.has_rst w.flags))
 
@@ -76,7 +79,7 @@ t_rst v w = is_live v && era.t_rst v.segments w
 abbrev pub t_full : View → Written → Bool
 t_full v w = begins v w && v.is_full && is_none v.evictable
 
--- how many cells the octets that go out need beside those of the era
+-- how many cells the octets that go out need besides those of the era
 abbrev pub wanted_of : List Written → Written → ℕ
 wanted_of ws w = missing_of ws (low_of ws w) (high_of ws w - low_of ws w)
 
@@ -99,7 +102,7 @@ t_room v w =
 abbrev pub pseudo_of : Datagram → ℕ
 pseudo_of d = pseudo_sum d.head.src.0 d.head.dst.0 6 (length d.octets)
 
--- T_SUM_OUT: outbound, sums are left to the sender's interface, and the sum is not right
+-- T_SUM_OUT: outbound, checksums are left to the sender's interface, and the checksum is not right
 abbrev pub t_sum_out : PlainSettings → Datagram → Bool
 t_sum_out settings d = not (goes_in d.side) && settings.offload && tcp.has_wrong_sum (pseudo_of d) d.octets
 
@@ -130,7 +133,8 @@ t_opt d = goes_in d.side && differ (options_sent d) (tcp.options d.octets)
 abbrev pub t_strip : Written → Bool
 t_strip w = w.inward && (tcp.has_syn w.flags || tcp.has_rst w.flags) && nat_lt 0 (length w.octets)
 
--- C_PROBE: inbound, and no era is live and neither SYN nor RST is set; or RST, and something was sent outwards in the live era
+-- C_PROBE: inbound, and no era is live and neither SYN nor RST is set; or RST, and something was
+-- sent outwards in the live era
 abbrev pub c_probe : View → Written → Bool
 c_probe v w =
     (not (is_live v) && cold.is_asked w) || (is_live v && w.inward && tcp.has_rst w.flags && is_some (out v.segments))
@@ -153,7 +157,7 @@ clashes ws w = list_any (λ offset. not (octet_sent ws w offset == own_octet ws 
 abbrev pub t_clash : View → Written → Bool
 t_clash v w = is_live v && era.is_of_stream v.segments w && clashes v.segments w
 
--- whether the condition of a rule on connections holds; those of other layers hold of none
+-- whether the condition of a rule on connections holds; those of other layers never hold
 abbrev pub holds_era : PlainSettings → View → Datagram → Rule → Bool
 holds_era settings v d rules.TCold = t_cold v (segment_in d)
 holds_era settings v d rules.TState = t_state v (segment_in d)

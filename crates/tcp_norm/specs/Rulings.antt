@@ -1,5 +1,6 @@
--- Rulings on segments of either side: the outcome that each represents, what is rewritten, and what changes in the tables (this project's profile).
-use Rattle.std.specs.Prelude.{◌≡◌, ◌≢◌, ◌==◌, ℕ, true, false, ◌+◌, ◌-◌, ◌*◌, ◌^◌, ◌<◌, ◌≤◌, length, List, [], ◌∷◌, ◌++◌, take, Option, Some, None, if◌then◌else◌}
+-- Rulings on segments of either side: the outcome that each represents, what is rewritten, and what
+-- changes in the tables (this project's profile).
+use Rattle.std.specs.Prelude.{◌≡◌, ◌≢◌, ◌==◌, ℕ, true, false, ◌+◌, ◌-◌, ◌*◌, ◌^◌, ◌<◌, ◌≤◌, length, List, [], ◌∷◌, ◌++◌, take, IsTrue, Option, Some, None, if◌then◌else◌}
 use Rattle.std.specs.List.{All, AllByRecursion, AllPairs, count_by, range_with_len}
 use Rattle.wire_base.specs.Segments.{Written}
 use Rattle.ipv4_codec.specs.declared.header.Ipv4.{Ipv4}
@@ -74,13 +75,14 @@ outcome_of settings ws d (Drop r) =
 outcome_of settings ws d (Pass p) = passed p.step d.fixes p.rows.items (packets_of settings ws d p)
 outcome_of settings ws d (Ask q) = passed (record { era = None; begun = None; ended = None; full = false }) d.fixes q.rows.items (probe_packet settings d q.probe ∷ [])
 
--- an inbound segment that a rule rewrites is made from the fields that were read, the ruling and the front of the scratch; an outbound segment has no probe
+-- an inbound segment that a rule rewrites is made from the fields that were read, the ruling and
+-- the front of the scratch; an outbound segment has no probe
 pub record IsRewritten (ws : List Written) (d : Datagram) (a : Arrival) (scratch : List ℕ) (p : Passage) : Type 0 where
   pub anew : goes_in d.side ≡ true → (length p.rows.items == 0) ≡ false → segment_anew ws d
       ≡ anew_segment a.packet.now.head a.head.now p.seq p.fin (cleaned (tcp.has_syn a.head.now.flags.0) (tcp.options a.packet.now.payload.now)) (take p.size scratch)
   pub alone : goes_in d.side ≡ false → p.probe ≡ None
 
--- what is sent is that of the ruling: a probe only for an inbound segment
+-- the packets are those of the ruling: a probe only for an inbound segment
 abbrev pub IsCarried : List Written → Datagram → Arrival → (scratch : List ℕ) → Ruling → Type 0
 IsCarried ws d a scratch (Drop r) = a.packet.now.side ≡ Inward
 IsCarried ws d a scratch (Ask q) = a.packet.now.side ≡ Inward
@@ -124,7 +126,8 @@ Judges a old new r =
     (settings : PlainSettings) (calls : List Call) (d : Datagram) → StandsFor settings old calls → IsDatagram a.packet.now a.link.now d
     → IsJudged settings calls d a new r
 
--- a ruling lets a segment pass that continues the era of this number: no rule holds, and nothing follows it
+-- a ruling lets a segment pass that continues the era of this number: no rule holds, and nothing
+-- follows it
 pub record IsClean (n : ℕ) (r : Ruling) : Type 0 where
   pub passage : Passage
   pub is : r ≡ Pass passage
@@ -153,7 +156,8 @@ pub record IsHeld (t : table.Table EraKey Flow) (live : Live) : Type 0 where
   pub slots_apart : AllPairs (λ e f. e.slot ≢ f.slot) t.entries
   pub keys_apart : AllPairs (λ e f. e.key ≢ f.key) t.entries
 
--- the era of this entry was changed by this outbound segment and touched at this time; `acked` is its greatest acknowledged offset
+-- the era of this entry was changed by this outbound segment and touched at this time; `acked` is
+-- its greatest acknowledged offset
 pub record Continues (old new : table.Table EraKey Flow) (slot : Slot) (s : Seg) (now acked : ℕ) (flow : Flow) : Type 0 where
   pub era : Era
   pub entries : new ≡ record old { entries = written_back old.entries slot (record { era = era; number = flow.number; touched = now }) }
@@ -168,7 +172,8 @@ pub record SendsIn (old new : table.Table EraKey Flow) (slot : Slot) (s : Seg) (
   pub was : table.Wherever old.entries slot (λ e. flow ≡ e.value)
   pub continues : Continues old new slot s now acked flow
 
--- the entry in this slot had this value, and has this era now, with as much acknowledged and as many octets, and was touched at this time
+-- the entry in this slot had this value, and has this era now, with as much acknowledged and as
+-- many octets, and was touched at this time
 pub record Touches (old new : table.Table EraKey Flow) (slot : Slot) (now : ℕ) (flow : Flow) (era : Era) : Type 0 where
   pub was : table.Wherever old.entries slot (λ e. flow ≡ e.value)
   pub entries : new ≡ record old { entries = written_back old.entries slot (record { era = era; number = flow.number; touched = now }) }
@@ -187,7 +192,8 @@ pub record HearsIn (old new : table.Table EraKey Flow) (slot : Slot) (s : Seg) (
   pub touches : Touches old new slot now flow era
   pub stands : (ws : List Written) → eraspec.StandsFor flow.era ws → eraspec.StandsFor era (ws ++ came s ∷ [])
 
--- the era of the entry in this slot was changed by a frame of this interval and touched at this time; `fresh` octets of the frame are the first at their offsets
+-- the era of the entry in this slot was changed by a frame of this interval and touched at this
+-- time; `fresh` octets of the frame are the first at their offsets
 pub record TakesIn (old new : table.Table EraKey Flow) (slot : Slot) (i : Interval) (fresh now : ℕ) : Type 0 where
   pub flow : Flow
   pub era : Era
@@ -213,7 +219,7 @@ pub record IsKeyed (a : Arrival) (key : FlowKey) : Type 0 where
   pub side : a.packet.now.side ≡ Inward
   pub key_is : key ≡ key_at Inward a.packet.now.head a.packet.now.payload.now
 
--- the segment is outbound, and its header says whether its sum is right
+-- the segment is outbound, and its header says whether its checksum is right
 pub record IsOutward (a : Arrival) : Type 0 where
   pub side : a.packet.now.side ≡ Outward
   pub fields : a.head.now ≡ fields_of (pseudo_sum a.packet.now.head.src.0 a.packet.now.head.dst.0 6 (length a.packet.now.payload.now)) a.packet.now.payload.now
@@ -240,13 +246,16 @@ pub record IsLast (era : Era) (warm : Warm) : Type 0 where
 abbrev pub taken : Taking → (scratch : List ℕ) → List ℕ
 taken t scratch = if t.as_read then t.own.now else take (length t.own.now) scratch
 
--- the octets fit into the chain, and the scratch has at least as many
+-- the octets fit into the chain, and the scratch has at least as many; if they are whole, the chain
+-- has an octet at each of their offsets
 pub record CanPlace (store : Store) (chain : ℕ) (t : Taking) (scratch : List ℕ) : Type 0 where
   pub offsets : t.kept.lo + length t.own.now ≤ 2 ^ 64 - 1
   pub inside : length t.own.now ≤ length scratch
   pub room : missing (chain_of store chain) t.kept.lo (length t.own.now) ≤ store.free
+  pub whole : IsTrue t.whole → maps.IsWhole (chain_of store chain) t.kept.lo (length t.own.now)
 
--- these octets are added to the chain at the offsets that had none; `count` is the number of these offsets
+-- these octets are added to the chain at the offsets that had none; `count` is the number of these
+-- offsets
 pub record PlacesOctets (old new : Store) (chain from : ℕ) (octets : List ℕ) (count : ℕ) : Type 0 where
   pub places : Places (chain_of old chain) (chain_of new chain) from octets
   pub fresh : count ≡ maps.fresh (chain_of old chain) from (length octets)
@@ -262,6 +271,7 @@ pub record CanTake (entries : List (table.Entry EraKey Flow)) (store : Store) (m
   pub long : t.kept.lo + length t.own.now ≡ t.kept.hi
   pub fits : length t.own.now ≤ MAX_PAYLOAD
   pub room : missing (chain_of store slot.0) t.kept.lo (length t.own.now) ≤ store.free
+  pub whole : IsTrue t.whole → maps.IsWhole (chain_of store slot.0) t.kept.lo (length t.own.now)
   pub quota : IsAtMost most (length (chain_of store slot.0) + missing (chain_of store slot.0) t.kept.lo (length t.own.now))
 
 -- the outcome writes these octets in the era, after the segments before
@@ -296,7 +306,8 @@ pub record Reopens (norm : TcpNorm) (d : Datagram) (live : Live) (era : Offered)
   pub octets : ℕ
   pub does : Does d (came first) (record { era = Some (norm.begun + 1); begun = Some (norm.begun + 1); ended = Some (record { era = live.flow.number; reason = reasons.Reopened; octets = Some octets }); full = false }) o
 
--- what the outcome needs: that the era takes these octets, or, without octets to take, that no era hears of the datagram
+-- what the outcome needs: that the era takes these octets, or, without octets to take, that no era
+-- hears of the datagram
 abbrev pub Needs : List Call → TcpNorm → Datagram → Live → Option Taking → Outcome → Type 0
 Needs calls norm d live None o = IsUnheard o
 Needs calls norm d live (Some t) o = Brings calls norm.scratch.items d live t o
@@ -306,7 +317,7 @@ pub record IsDecision (settings : PlainSettings) (calls : List Call) (d : Datagr
   pub rules : IsRuling settings (view_of settings calls d) d a norm.scratch.items r
   pub needs : Needs calls norm d live taking (outcome_at settings (view_of settings calls d) d)
 
--- that decision is right after all calls that the state stands for
+-- that decision is right after all calls that the state represents
 abbrev pub Decides : Arrival → (old new : TcpNorm) → Live → Ruling → Option Taking → Type 0
 Decides a old new live r taking =
     (settings : PlainSettings) (calls : List Call) (d : Datagram) → StandsFor settings old calls → IsDatagram a.packet.now a.link.now d

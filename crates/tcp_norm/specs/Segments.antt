@@ -1,4 +1,5 @@
--- Datagrams that the rules before those of connections leave, and what holds of the packets that are sent for them (this project's profile).
+-- Datagrams that the rules before those of connections leave, and what holds for the packets that
+-- are sent for them (this project's profile).
 use Rattle.std.specs.Prelude.{◌≡◌, ◌≢◌, ℕ, ◌*◌, ◌≤◌, true, false, List, [], ◌∷◌, ◌++◌, length, Some, None}
 use Rattle.std.specs.List.{AllByRecursion, list_any}
 use Rattle.wire_base.specs.Tcp as tcp
@@ -19,8 +20,8 @@ use Rattle.tcp_norm.specs.Lives.{AreMade}
 use Rattle.tcp_norm.specs.Held.{held_all, held_in}
 use Rattle.tcp_norm.specs.Near.{IsAtMost}
 
--- What is known of a datagram that no rule on its segment's header drops: it has a whole header with legal flags and options that are well formed, and inwards
--- a right sum.
+-- What is known of a datagram that no rule on its segment's header drops: it has a whole header
+-- with legal flags and options that are well formed, and inwards a right checksum.
 pub record IsSegment (settings : PlainSettings) (d : Datagram) : Type 0 where
   pub known : IsKnown settings d
   pub protocol : d.head.protocol ≡ 6
@@ -68,21 +69,23 @@ ProbesAreSilent =
     (settings : PlainSettings) (v : View) (d : Datagram) → is_written (outcome_at settings v d).verdict ≡ false
     → AllByRecursion IsSilentPacket (outcome_at settings v d).packets
 
--- exactly one packet is sent, which carries what the datagram's segment does; it is the datagram as it was read, where no rule rewrites it
+-- exactly one packet is sent, which carries what the datagram's segment does; it is the datagram as
+-- it was read, where no rule rewrites it
 pub record KeepsPayload (d : Datagram) (mended : List Rule) (packets : List Packet) : Type 0 where
   pub packet : Packet
   pub only : packets ≡ packet ∷ []
   pub same : tcp.payload packet.octets ≡ tcp.payload d.octets
   pub whole : d.fixes ≡ [] → mended ≡ [] → packet ≡ as_read d
 
--- this holds of a datagram that no rule drops, and none of these rewrites
+-- this holds for a datagram that no rule drops, and none of these rewrites
 abbrev pub CleanKeepsPayload : Type 0
 CleanKeepsPayload =
     (settings : PlainSettings) (v : View) (d : Datagram) → IsSegment settings d
     → dropped_by settings v d ≡ None → list_any touches_payload (mended_by settings v d) ≡ false
     → KeepsPayload d (mended_by settings v d) (outcome_at settings v d).packets
 
--- After such calls no more blocks hold octets than there are cells, and where a quota is set, no more of one era than it says.
+-- After such calls no more blocks hold octets than there are cells, and where a quota is set, no
+-- more of one era than it allows.
 pub record IsBounded (settings : PlainSettings) (cs : List Call) : Type 0 where
   pub cells : held_all cs ≤ settings.cells
   pub quota : AllByRecursion (λ a. IsAtMost settings.quota (held_in cs a)) (eras cs)
@@ -90,7 +93,8 @@ pub record IsBounded (settings : PlainSettings) (cs : List Call) : Type 0 where
 abbrev pub HeldIsBounded : Type 0
 HeldIsBounded = (settings : PlainSettings) (cs : List Call) → AreOfSegments settings cs → IsBounded settings cs
 
--- Where there are as many cells as all eras may hold together, T_ROOM drops nothing: no segment is dropped for the octets of another era.
+-- Where there are as many cells as all eras may hold together, T_ROOM drops nothing: no segment is
+-- dropped for the octets of another era.
 abbrev pub QuotaLeavesRoom : Type 0
 QuotaLeavesRoom =
     (settings : PlainSettings) (cs : List Call) (d : Datagram) (most : ℕ) → AreOfSegments settings cs → settings.quota ≡ Some most

@@ -21,11 +21,12 @@ pub record CanList (slots : Listing) (store : Store) (slot : Slot) : Type 0 wher
 abbrev pub spares : Store → List (Entry EraKey Flow) → List Slot
 spares store entries = map (λ e. e.slot) (filter (λ e. is_empty store e.slot) entries)
 
--- of listed slots those without this one, which is behind them where its chain has no block
+-- of listed slots those without this one, which is after them where its chain has no block
 abbrev pub settled : Store → Slot → List Slot → List Slot
 settled store slot slots = if is_empty store slot then others slots slot ++ slot ∷ [] else others slots slot
 
--- of the list only this slot has changed: it is the last one where its chain has no block, and otherwise it is not listed
+-- of the list only this slot has changed: it is the last one where its chain has no block, and
+-- otherwise it is not listed
 abbrev pub Relists : (old new : Listing) → Store → Slot → Type 0
 Relists old new store slot = new ≡ record old { slots = settled store slot old.slots }
 

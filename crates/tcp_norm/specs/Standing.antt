@@ -21,7 +21,8 @@ use Rattle.tcp_norm.specs.Chains.{Keeps}
 abbrev pub alive_in : Entry EraKey Flow → Alive
 alive_in e = record { number = e.value.number; key = e.key.0; touched = e.value.touched }
 
--- what is kept of a live era represents its segments: the state and the quantities, the octets in the chain of its slot, and how many blocks they take
+-- what is kept of a live era represents its segments: the state and the quantities, the octets in
+-- the chain of its slot, and how many blocks they take
 pub record EntryStands (segments : ℕ → List Written) (store : Store) (e : Entry EraKey Flow) : Type 0 where
   pub era : era.StandsFor e.value.era (segments e.value.number)
   pub octets : Keeps (chain_of store e.slot.0) (segments e.value.number)
@@ -31,13 +32,15 @@ pub record EntryStands (segments : ℕ → List Written) (store : Store) (e : En
 abbrev pub IsFree : List (Entry EraKey Flow) → (chain : ℕ) → Type 0
 IsFree entries chain = AllByRecursion (λ e. e.slot.0 ≢ chain) entries
 
--- numbers are given once: each live era has one that was given, no two have the same, and nothing was written in a later era
+-- numbers are given once: each live era has one that was given, no two have the same, and nothing
+-- was written in a later era
 pub record AreGiven (begun : ℕ) (segments : ℕ → List Written) (eras : List Alive) : Type 0 where
   pub below : AllByRecursion (λ a. a.number ≤ begun) eras
   pub apart : Pairwise (λ a b. a.number ≢ b.number) eras
   pub fresh : (number : ℕ) → begun < number → segments number ≡ []
 
--- The entries and the store represent the live eras, least recently touched first, and the segments of each; the chains of other slots are empty.
+-- The entries and the store represent the live eras, least recently touched first, and the segments
+-- of each; the chains of other slots are empty.
 pub record HoldsFor (eras : List Alive) (segments : ℕ → List Written) (begun : ℕ) (entries : List (Entry EraKey Flow)) (store : Store) : Type 0 where
   pub eras_are : map alive_in entries ≡ eras
   pub each : AllByRecursion (EntryStands segments store) entries
@@ -74,7 +77,8 @@ pub record StandsFor (settings : PlainSettings) (norm : TcpNorm) (calls : List C
 abbrev pub Holds : TcpNorm → List Alive → (ℕ → List Written) → Type 0
 Holds norm lives segments = HoldsFor lives segments norm.begun norm.table.entries norm.store
 
--- with the first segments of the era of this number, of which nothing is kept, the segments are these
+-- with the first segments of the era of this number, of which nothing is kept, the segments are
+-- these
 pub record Begins (e : Era) (number : ℕ) (segments later : ℕ → List Written) : Type 0 where
   pub stands : era.StandsFor e (later number)
   pub none : (offset : ℕ) → kept_at (later number) offset ≡ None

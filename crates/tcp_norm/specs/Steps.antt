@@ -1,5 +1,5 @@
 -- What a datagram that no rule drops does to the eras.
-use Rattle.std.specs.Prelude.{◌≡◌, ℕ, ◌+◌, ◌==◌, ◌≤◌, nat_lt, nat_le, if◌then◌else◌, Bool, true, false, List, [], ◌∷◌, ◌++◌, length, map, filter, Option, Some, None, IfSome, IfNone}
+use Rattle.std.specs.Prelude.{◌≡◌, ℕ, ◌+◌, ◌==◌, ◌<◌, ◌≤◌, nat_lt, nat_le, if◌then◌else◌, Bool, true, false, List, [], ◌∷◌, ◌++◌, length, map, filter, Option, Some, None, IfSome, IfNone}
 use Rattle.std.specs.Option.{option_or}
 use Rattle.wire_base.specs.Segments.{Written}
 use Rattle.rule_book.specs.declared.entry.Ended.{Ended}
@@ -13,6 +13,13 @@ use Rattle.wire_base.specs.declared.address.FlowKey.{FlowKey}
 use Rattle.tcp_norm.specs.declared.state.TcpNorm.{TcpNorm}
 use Rattle.tcp_norm.specs.declared.step.Step.{Step}
 use Rattle.tcp_norm.specs.declared.step.Place.{Place}
+use Rattle.tcp_norm.specs.declared.step.Room.{Room}
+use Rattle.tcp_norm.specs.declared.step.Room.TheVariants.{Free, Spare}
+use Rattle.tcp_norm.specs.declared.flow.Flow.{Flow}
+use Rattle.tcp_norm.specs.declared.key.EraKey.{EraKey}
+use Rattle.linked_table.specs.Table.{Entry}
+use Rattle.linked_table.specs.Listing.{first_of}
+use Rattle.linked_table.specs.declared.table.Slot.{Slot}
 use Rattle.ip_rules.specs.Datagrams.{Datagram, goes_in}
 use Rattle.tcp_norm.specs.Calls.{Alive, Call, datagram, Outcome, read, is_written, segment_in, key_of, without}
 use Rattle.tcp_norm.specs.Held.{held_of}
@@ -77,7 +84,8 @@ evicted_of segments a = evicted (number_of a) (octets_of (segments_of segments a
 abbrev pub first_empty : List Alive → (ℕ → List Written) → Option Ended
 first_empty lives segments = evicted_of segments (head_of (filter (λ a. held_of (segments a.number) == 0) lives))
 
--- The slot of a new era: a free one, or that of one that ends; and none where as many are live as may be and each holds octets
+-- The slot of a new era: a free one, or that of one that ends; and none where as many are live as
+-- may be and each holds octets
 abbrev pub place_by : Option Ended → (next : ℕ) → Option Place
 place_by None next = None
 place_by (Some e) next = Some (record { begun = next; evicted = Some e })
@@ -86,11 +94,18 @@ abbrev pub place_of : (is_full : Bool) → Option Ended → (next : ℕ) → Opt
 place_of false empty next = Some (record { begun = next; evicted = None })
 place_of true empty next = place_by empty next
 
+-- an era can begin there: fewer are live than may be, or this is the first slot of those whose era
+-- holds no octet
+abbrev pub IsRoom : List (Entry EraKey Flow) → (max : ℕ) → List Slot → Room → Type 0
+IsRoom entries max spare Free = length entries < max
+IsRoom entries max spare (Spare slot) = (max ≤ length entries) × (Some slot ≡ first_of spare)
+
 -- the era of this number goes on
 abbrev pub continued_in : (number : ℕ) → Step
 continued_in number = record { era = Some number; begun = None; ended = None; full = false }
 
--- the era of this number, which has this number of octets, ends, and another of its connection begins
+-- the era of this number, which has this number of octets, ends, and another of its connection
+-- begins
 abbrev pub reopened_by : (number next octets : ℕ) → Step
 reopened_by number next octets =
     record { era = Some next; begun = Some next; ended = Some (record { era = number; reason = reasons.Reopened; octets = Some octets }); full = false }

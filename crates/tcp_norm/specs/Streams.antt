@@ -7,7 +7,7 @@ use Rattle.tcp_codec.specs.declared.header.Tcp.{Tcp}
 use Rattle.era_state.specs.declared.interval.Interval.{Interval}
 use Rattle.ip_rules.specs.Judged.{where_holds}
 
--- the rules, and behind them those of the others that hold
+-- the rules, and after them those of the others that hold
 abbrev pub and_those : List Rule → List (Rule × Bool) → List Rule
 and_those rows [] = rows
 and_those rows (test ∷ more) = and_those (rows ++ where_holds test.1 test.0) more
@@ -20,14 +20,16 @@ header_tests head options =
 abbrev pub header_rows : Tcp → (options : Bool) → List Rule
 header_rows head options = and_those [] (header_tests head options)
 
--- those on a segment of the stream, by the interval that is kept and whether an octet clashes; they stand behind those on its header
+-- those on a segment of the stream, by the interval that is kept and whether an octet clashes; they
+-- follow those on its header
 abbrev pub stream_tests : Interval → (clash : Bool) → List (Rule × Bool)
 stream_tests kept clash = (rules.TOld, kept.below) ∷ (rules.TWindow, kept.window) ∷ (rules.TEnd, kept.end) ∷ (rules.TClash, clash) ∷ []
 
 abbrev pub stream_rows : (header : List Rule) → Interval → (clash : Bool) → List Rule
 stream_rows header kept clash = and_those header (stream_tests kept clash)
 
--- those on one that brings no octet of the stream, by whether it carries octets and whether a probe is sent; they stand behind those on its header
+-- those on one that brings no octet of the stream, by whether it carries octets and whether a probe
+-- is sent; they follow those on its header
 abbrev pub bare_tests : (loaded probe : Bool) → List (Rule × Bool)
 bare_tests loaded probe = (rules.TStrip, loaded) ∷ (rules.CProbe, probe) ∷ []
 

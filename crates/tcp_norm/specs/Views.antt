@@ -7,8 +7,9 @@ use Rattle.ip_rules.specs.Datagrams.{Datagram}
 use Rattle.tcp_norm.specs.Calls.{Call, Alive, segments, begun_in, eras, live, key_of, numbers_of}
 use Rattle.tcp_norm.specs.Held.{held_all, evictable}
 
--- The live era of the datagram's four-tuple and the segments written in it, how many cells hold nothing, whether as many eras are live as may be, the
--- least recently touched of those that hold nothing and its octets, and the number of the next era that begins.
+-- The live era of the datagram's four-tuple and the segments written in it, how many cells hold
+-- nothing, and whether as many eras are live as may be. Also the least recently touched of those
+-- that hold nothing and its octets, and the number of the next era that begins.
 pub record View : Type 0 where
   pub era : Option ℕ
   pub segments : List Written
@@ -45,7 +46,7 @@ view_of settings cs d =
       next = begun_in cs + 1;
     }
 
--- the eras that end for being idle by a time: at most two, the least recently touched of those in which nothing was written for more than
--- `idle` seconds
+-- the eras that end for being idle by a time: at most two, the least recently touched of those in
+-- which nothing was written for more than `idle` seconds
 abbrev pub idle_at : PlainSettings → (now : ℕ) → List Call → List ℕ
 idle_at settings now cs = numbers_of (take 2 (filter (λ a. nat_lt (a.touched + settings.idle) now) (eras cs)))

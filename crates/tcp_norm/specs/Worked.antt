@@ -1,4 +1,5 @@
--- Worked examples: a connection that opens and brings octets, a clash, a reset with its probe, a reset that is dropped, and one that ends an era.
+-- Worked examples: a connection that opens and brings octets, a clash, a reset with its probe, a
+-- reset that is dropped, and one that ends an era.
 use Rattle.std.specs.Prelude.{◌≡◌, ℕ, true, false, List, [], ◌∷◌, map, Some, None}
 use Rattle.rule_book.specs.declared.entry.Reason.TheVariants as reasons
 use Rattle.ip_rules.specs.Datagrams.{Datagram, anew}
@@ -64,12 +65,12 @@ pub record WorkedRows : Type 0 where
         ended = [];
         packets = anew (standard []) (came_in 24 1000 5001 []) (came_in 24 1000 5001 (97 ∷ 98 ∷ 99 ∷ 100 ∷ [])).octets ∷ [];
       }
-  -- a reset that is awaited passes, and the probe of its era goes behind it
+  -- a reset that is awaited passes, and the probe of its era follows it
   pub reset : (became opening (came_in 4 1000 0 [])).rules ≡ rules.CProbe ∷ []
   pub reset_packets : map (λ p. read true p.octets) (became opening (came_in 4 1000 0 [])).packets
       ≡ record { inward = true; seq = 1000; ack = 0; flags = 4; window = 8192; scale = None; octets = [] }
       ∷ record { inward = true; seq = 999; ack = 5001; flags = 16; window = 8192; scale = None; octets = [] } ∷ []
-  -- a reset of what is acknowledged is dropped
+  -- a reset at an acknowledged number is dropped
   pub stray_reset : (became (went_out 16 5001 1004 [] ∷ came_in 24 1000 5001 (97 ∷ 98 ∷ 99 ∷ 100 ∷ []) ∷ opening) (came_in 4 1003 0 [])).rules ≡ rules.TRst ∷ []
   -- an outbound reset ends the era
   pub ends_by_reset : (became opening (went_out 4 5001 0 [])).ended ≡ record { era = 1; reason = reasons.Reset; octets = Some 0 } ∷ []

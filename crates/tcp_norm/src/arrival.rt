@@ -6,7 +6,7 @@ ghost use Rattle.wire_base.specs.declared.limits.TheConstants.{MAX_FRAME, MAX_LI
 use ip_rules::IpPacket;
 use tcp_codec::Tcp;
 
-/// A datagram that arrives at this time behind these link octets.
+/// A datagram that arrives at this time after these link octets.
 #[derive(Clone, Copy)]
 pub(crate) struct Arrival<'a> {
     pub(crate) time: u32,

@@ -3,7 +3,7 @@ use crate::flow::Flow;
 use crate::key::EraKey;
 use crate::spare::list_spare;
 use crate::state::TcpNorm;
-use crate::step::Place;
+use crate::step::{Place, Room};
 use era_state::Era;
 use linked_table::{Hashed, Slot};
 use retain_store::ChainId;
@@ -15,13 +15,14 @@ impl TcpNorm {
     ghost use Rattle.wire_base.specs.Segments.{Written};
     ghost use Rattle.norm_settings.specs.Settings.{PlainSettings};
     ghost use Rattle.linked_table.specs.Table.{HasNone, IsIn, Wherever};
+    ghost use Rattle.linked_table.specs.Listing.{first_of};
     ghost use Rattle.ip_rules.specs.Datagrams.{Datagram};
     ghost use Rattle.tcp_norm.specs.Calls.{Call, Outcome, datagram, key_of, Alive, without};
     ghost use Rattle.tcp_norm.specs.Views.{view_of};
     ghost use Rattle.tcp_norm.specs.Colds.{IsUnheard};
     ghost use Rattle.tcp_norm.specs.Held.{kept_at};
     ghost use Rattle.tcp_norm.specs.Near.{IsNear};
-    ghost use Rattle.tcp_norm.specs.Steps.{Does, Evicts, Places, began, place_in, reopened_by};
+    ghost use Rattle.tcp_norm.specs.Steps.{Does, Evicts, IsRoom, Places, began, place_in, reopened_by};
     ghost use Rattle.tcp_norm.specs.Standing.{IsAbsent, IsNew, IsReady, StandsFor, Holds, Begins, ChangesTables};
     ghost use Rattle.tcp_norm.specs.declared.key.EraKey.{EraKey};
     ghost use Rattle.tcp_norm.specs.declared.flow.Flow.{Flow};
@@ -29,70 +30,101 @@ impl TcpNorm {
     ghost use Rattle.era_state.specs.Eras as eras;
     ghost use Rattle.linked_table.specs.Table as table;
 
-    /// Begins an era with a segment that arrives at this time, if there is a slot for it.
+    /// Returns where an era can begin, or `None` if as many are live as may be and each of them
+    /// holds octets.
     #[inline(always)]
-    pub(crate) fn admit(&mut self, hashed: &Hashed<EraKey>, era: &Era, now: u32) -> Option<Place>
-        requires absent { IsAbsent self.old hashed.now.key.0 }
-        requires near { IsNear (self.old.calls + 1) era.now }
-        requires ready { IsReady self.old now }
-        ensures answer { (settings : PlainSettings) (calls : List Call) (d : Datagram) → StandsFor settings self.old calls → result ≡ place_in (view_of settings calls d) }
-        ensures some { IfSome result (λ p. (settings : PlainSettings) (calls : List Call) (d : Datagram) (w : Written) (o : Outcome) → StandsFor settings self.old calls →
-            key_of d ≡ hashed.now.key.0 → eras.StandsFor era.now (w ∷ []) → ((offset : ℕ) → kept_at (w ∷ []) offset ≡ None) → Does d w (began p) o → StandsFor settings self.new (datagram now d o ∷ calls)) }
-        ensures none { IfNone result ((settings : PlainSettings) (calls : List Call) (d : Datagram) (o : Outcome) → StandsFor settings self.old calls →
-            IsUnheard o → StandsFor settings self.new (datagram now d o ∷ calls)) }
+    pub(crate) fn room(&self) -> Option<Room>
+        ensures some { IfSome result (IsRoom self.now.table.entries self.now.table.max self.now.spare.slots) }
+        ensures none { IfNone result ((settings : PlainSettings) (calls : List Call) (d : Datagram) → StandsFor settings self.now calls → place_in (view_of settings calls d) ≡ None) }
     {
-        self.calls += 1;
-        self.latest = now;
-        match self.place(hashed, era, now) {
+        if self.table.len() < self.table.max() {
+            return Some(Room::Free);
+        }
+        match self.spare.first() {
             None => None,
-            Some(place) => Some(place),
+            Some(slot) => Some(Room::Spare(slot)),
         }
     }
 
-    // Ends the least recently touched era that holds no octet, if there is one.
+    /// Begins an era there with a segment that arrives at this time.
     #[inline(always)]
-    fn evict(&mut self) -> Option<Ended>
-        ensures evicts { (lives : List Alive) (segments : ℕ → List Written) → Holds self.old lives segments → Evicts self.old self.new lives segments result }
+    pub(crate) fn admit(
+        &mut self,
+        room: Room,
+        hashed: &Hashed<EraKey>,
+        era: &Era,
+        now: u32,
+    ) -> Place
+        requires room { IsRoom self.old.table.entries self.old.table.max self.old.spare.slots room }
+        requires absent { IsAbsent self.old hashed.now.key.0 }
+        requires near { IsNear (self.old.calls + 1) era.now }
+        requires ready { IsReady self.old now }
+        ensures answer { (settings : PlainSettings) (calls : List Call) (d : Datagram) → StandsFor settings self.old calls → Some result ≡ place_in (view_of settings calls d) }
+        ensures stands { (settings : PlainSettings) (calls : List Call) (d : Datagram) (w : Written) (o : Outcome) → StandsFor settings self.old calls →
+            key_of d ≡ hashed.now.key.0 → eras.StandsFor era.now (w ∷ []) → ((offset : ℕ) → kept_at (w ∷ []) offset ≡ None) → Does d w (began result) o → StandsFor settings self.new (datagram now d o ∷ calls) }
+    {
+        self.calls += 1;
+        self.latest = now;
+        self.place(room, hashed, era, now)
+    }
+
+    // Ends the era in this slot, the least recently touched one that holds no octet.
+    #[inline(always)]
+    fn evict(&mut self, slot: Slot) -> Ended
+        requires { Some slot ≡ first_of self.old.spare.slots }
+        ensures evicts { (lives : List Alive) (segments : ℕ → List Written) → Holds self.old lives segments → Evicts self.old self.new lives segments (Some result) }
         ensures absent { (key : EraKey) → HasNone self.old.table.entries key → HasNone self.new.table.entries key }
-        ensures room { IfSome result (λ ended. length self.new.table.entries < self.new.table.max) }
+        ensures room { length self.new.table.entries < self.new.table.max }
         ensures tables { ChangesTables self.old self.new self.old.begun }
     {
         self.entries_are_apart();
-        let slot = self.spare.first()?;
         let flow = self.flow_at(slot);
         let number = flow.number;
         let octets = flow.era.octets();
         self.end(slot);
-        Some(Ended {
+        Ended {
             era: number,
             reason: Reason::Evicted,
             octets: Some(octets),
-        })
-    }
-
-    // Begins an era of a connection that has none: beside the others, or in the slot of one that holds no octet, or else not at all.
-    #[inline(always)]
-    pub(crate) fn place(&mut self, hashed: &Hashed<EraKey>, era: &Era, now: u32) -> Option<Place>
-        requires fresh { IsNew self.old hashed.now.key.0 era.now }
-        ensures places { (lives : List Alive) (segments : ℕ → List Written) → Holds self.old lives segments → Places self.old self.new hashed.now.key.0 era.now now lives segments result }
-        ensures tables { ChangesTables self.old self.new (self.old.begun + (if is_some result then 1 else 0)) }
-    {
-        if self.table.len() < self.table.max() {
-            self.begin(hashed, era, now);
-            return Some(Place {
-                begun: self.begun,
-                evicted: None,
-            });
         }
-        let ended = self.evict()?;
-        self.begin(hashed, era, now);
-        Some(Place {
-            begun: self.begun,
-            evicted: Some(ended),
-        })
     }
 
-    // Begins an era of a connection that has none, where fewer are live than may be. It holds no octet.
+    // Begins an era of a connection that has none: in a free slot, or in the slot of one that holds
+    // no octet.
+    #[inline(always)]
+    pub(crate) fn place(
+        &mut self,
+        room: Room,
+        hashed: &Hashed<EraKey>,
+        era: &Era,
+        now: u32,
+    ) -> Place
+        requires room { IsRoom self.old.table.entries self.old.table.max self.old.spare.slots room }
+        requires fresh { IsNew self.old hashed.now.key.0 era.now }
+        ensures places { (lives : List Alive) (segments : ℕ → List Written) → Holds self.old lives segments → Places self.old self.new hashed.now.key.0 era.now now lives segments (Some result) }
+        ensures tables { ChangesTables self.old self.new (self.old.begun + 1) }
+    {
+        match room {
+            Room::Free => {
+                self.begin(hashed, era, now);
+                Place {
+                    begun: self.begun,
+                    evicted: None,
+                }
+            }
+            Room::Spare(slot) => {
+                let ended = self.evict(slot);
+                self.begin(hashed, era, now);
+                Place {
+                    begun: self.begun,
+                    evicted: Some(ended),
+                }
+            }
+        }
+    }
+
+    // Begins an era of a connection that has none, where fewer are live than may be. It holds no
+    // octet.
     pub(crate) fn begin(&mut self, hashed: &Hashed<EraKey>, era: &Era, now: u32)
         requires fresh { IsNew self.old hashed.now.key.0 era.now }
         requires room { length self.old.table.entries < self.old.table.max }
@@ -113,7 +145,8 @@ impl TcpNorm {
         self.begun = number;
     }
 
-    /// Ends the live era in this slot and begins another of its connection with a segment that arrives at this time.
+    /// Ends the live era in this slot and begins another of its connection with a segment that
+    /// arrives at this time.
     pub(crate) fn reopen(&mut self, slot: Slot, key: FlowKey, era: &Era, now: u32)
         requires inside { IsIn self.old.table.entries slot }
         requires keyed { Wherever self.old.table.entries slot (λ e. e.key.0 ≡ key) }
@@ -131,7 +164,7 @@ impl TcpNorm {
         self.begin(&hashed, era, now);
     }
 
-    // Ends the era in this slot: its octets and its entry go, and the others stay.
+    // Ends the era in this slot: its octets and its entry are removed, and the others stay.
     pub(crate) fn end(&mut self, slot: Slot)
         requires { IsIn self.old.table.entries slot }
         ensures holds { (lives : List Alive) (segments : ℕ → List Written) (flow : Flow) → Holds self.old lives segments →

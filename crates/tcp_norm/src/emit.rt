@@ -38,7 +38,8 @@ impl TcpNorm {
     ghost use Rattle.tcp_norm.specs.Emits.{packet_by};
     ghost use Rattle.wire_base.specs.Tcp as tcp;
 
-    /// Puts the packets of a ruling into the empty outbox. Returns true, with nothing in it, only if there is one and it is the frame that was read.
+    /// Puts the packets of a ruling into the empty outbox. Returns true, with nothing in it, only
+    /// if there is one and it is the frame that was read.
     pub(crate) fn emit(&mut self, ruling: &Ruling, arrival: &Arrival<'_>, out: &mut Outbox) -> bool
         requires empty { IsBlank out.old }
         requires short { IsShort arrival.now ruling.now }
@@ -70,7 +71,8 @@ impl TcpNorm {
         }
     }
 
-    // Puts the packet of a segment that passes into the empty outbox. Returns true, with nothing in it, only if it is the frame that was read.
+    // Puts the packet of a segment that passes into the empty outbox. Returns true, with nothing in
+    // it, only if it is the frame that was read.
     #[inline(always)]
     fn emit_own(&mut self, passage: &Passage, arrival: &Arrival<'_>, out: &mut Outbox) -> bool
         requires short { Fits arrival.now passage.now }
@@ -89,8 +91,8 @@ impl TcpNorm {
         self.emit_read(arrival, out)
     }
 
-    // Puts the packet of a segment of which no rule of its connection holds into the empty outbox. Returns true, with nothing in it, only if it is the frame
-    // that was read.
+    // Puts the packet of a segment to which no rule of its connection applies into the empty
+    // outbox. Returns true, with nothing in it, only if it is the frame that was read.
     #[inline(always)]
     pub(crate) fn emit_read(&self, arrival: &Arrival<'_>, out: &mut Outbox) -> bool
         requires empty { IsBlank out.old }
@@ -109,7 +111,8 @@ impl TcpNorm {
         false
     }
 
-    // Puts the packet of a segment that a rule rewrites: an inbound one with what its passage says, an outbound one with a correct checksum.
+    // Puts the packet of a segment that a rule rewrites: an inbound one with what its passage says,
+    // an outbound one with a correct checksum.
     fn emit_rewritten(&mut self, passage: &Passage, arrival: &Arrival<'_>, out: &mut Outbox)
         requires short { Fits arrival.now passage.now }
         requires some { (length passage.now.rows.items == 0) ≡ false }
@@ -184,7 +187,8 @@ fn put_rewritten(
     put_anew(arrival.link, ip, &page[..size], out);
 }
 
-// Puts the packet of a probe between the ends of an inbound segment, if there is one, into the outbox, behind at most one other.
+// Puts the packet of a probe between the ends of an inbound segment, if there is one, into the
+// outbox, after at most one other.
 #[inline(always)]
 fn put_probe(arrival: &Arrival<'_>, hops: u8, probe: Option<Probe>, out: &mut Outbox)
     requires passes { hops ≤ 254 }

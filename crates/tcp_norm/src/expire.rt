@@ -13,8 +13,9 @@ impl TcpNorm {
     ghost use Rattle.tcp_norm.specs.Outcomes.{expiry_of};
     ghost use Rattle.tcp_norm.specs.Standing.{StandsFor, Holds, ChangesTables};
 
-    /// Ends the eras, at most two, in which nothing was written for more than `idle` seconds, the least recently written first, and appends them to the entry.
-    // Few records end an era: the test of the oldest is in the step, so that it makes no call.
+    /// Ends the eras, at most two, in which nothing was written for more than `idle` seconds, the
+    /// least recently written first, and appends them to the entry.
+    // It is inlined: few records end an era, so the step tests the oldest era without a call.
     #[inline(always)]
     pub fn expire(&mut self, now: u32, entry: &mut Entry)
         requires none { entry.old.ended.items ≡ [] }
@@ -60,7 +61,7 @@ impl TcpNorm {
         })
     }
 
-    // Nothing was written in the era for more than `idle` seconds.
+    // Returns whether nothing was written in the era for more than `idle` seconds.
     fn is_idle(&self, flow: &Flow, now: u32) -> bool
         ensures { result ≡ nat_lt (flow.now.touched + self.now.limits.idle) now }
     {

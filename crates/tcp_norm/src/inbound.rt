@@ -25,8 +25,10 @@ impl TcpNorm {
     ghost use Rattle.tcp_norm.specs.Standing.{StandsFor};
     ghost use Rattle.wire_base.specs.declared.limits.TheConstants.{MAX_FRAME, MAX_LINK, MAX_PAYLOAD};
 
-    /// Handles an inbound datagram: it continues its era, reopens or begins one, a host is asked about it, or a rule drops it. A probe may be sent behind
-    /// a reset, and for one that is dropped.
+    /// Handles an inbound datagram: it continues its era, reopens or begins one, a host is asked
+    /// about it, or a rule drops it. A probe may be sent after a reset, and for one that is
+    /// dropped. Rules 35 to 40, 49 to 55, 57, 58 and 60. `now` is in seconds, and never below that
+    /// of an earlier call.
     pub fn inbound(
         &mut self,
         now: u32,
@@ -57,8 +59,9 @@ impl TcpNorm {
         put_given(as_read, packet.frame, out);
     }
 
-    /// Handles a datagram of either side, as `inbound` and `outbound` do. Returns true only if its one frame is the one that was read; the outbox is then
-    /// empty, and otherwise it has the frames.
+    /// Handles a datagram of either side, as `inbound` and `outbound` do. Returns true only if its
+    /// one frame is the one that was read; the outbox is then empty, and otherwise it has the
+    /// frames.
     pub fn take_into(
         &mut self,
         now: u32,

@@ -13,12 +13,13 @@ use ip_rules::laws::anew_is_packet;
 use reset_probe::laws::probes_are_plain;
 use tcp_codec::laws::{mended_say_the_same, options_are_cleaned, segments_are_read_back};
 
-/// A call that neither names nor ends an era leaves it as it was.
+/// Proves that a call that neither names nor ends an era leaves it as it was.
 pub fn others_stay()
     ensures { OthersStay }
 {}
 
-/// What becomes of a segment of the stream is written in its era, and is the frame of its interval with the octets that went in first.
+/// Proves that what is written for a segment of the stream is written in its era, and is the frame
+/// of its interval with the octets that went in first.
 pub fn streams_are_written()
     ensures { StreamsAreWritten }
 {
@@ -26,22 +27,22 @@ pub fn streams_are_written()
     segments_are_read_back();
 }
 
-/// The worked examples, computed from the definitions.
+/// Proves the worked examples, computed from the definitions.
 pub fn worked_rows()
     ensures { WorkedRows }
 {}
 
-/// The live era of a four-tuple is the one last begun for it and not ended.
+/// Proves that the live era of a four-tuple is the one last begun for it and not ended.
 pub fn lives_are_last()
     ensures { LivesAreLast }
 {}
 
-/// No more eras are live than the settings allow.
+/// Proves that no more eras are live than the settings allow.
 pub fn flows_are_bounded()
     ensures { FlowsAreBounded }
 {}
 
-/// Each packet that goes out for a datagram is one of it.
+/// Proves that each packet that is sent for a datagram is one of it.
 pub fn packets_are_its_own()
     ensures { PacketsAreItsOwn }
 {
@@ -50,7 +51,7 @@ pub fn packets_are_its_own()
     mended_say_the_same();
 }
 
-/// What goes inwards is read alike by every host.
+/// Proves that what goes inwards is read alike by every host.
 pub fn packets_are_plain()
     ensures { PacketsArePlain }
 {
@@ -61,12 +62,13 @@ pub fn packets_are_plain()
     probes_are_plain();
 }
 
-/// A probe that is sent for a datagram that a rule drops adds nothing to a stream.
+/// Proves that a probe that is sent for a datagram that a rule drops adds nothing to a stream.
 pub fn probes_are_silent()
     ensures { ProbesAreSilent }
 {}
 
-/// In calls that the rules make of datagrams that are segments, the segments written of each era are emitted, each after those before it.
+/// Proves that in calls that the rules make of datagrams that are segments, the segments written of
+/// each era are emitted, each after those before it.
 pub fn calls_are_emitted()
     ensures { CallsAreEmitted }
 {
@@ -78,7 +80,8 @@ pub fn calls_are_emitted()
     options_are_cleaned();
 }
 
-/// Where no rule holds that changes a payload, one packet is sent for a datagram, with the payload of its segment.
+/// Proves that where no rule holds that changes a payload, one packet is sent for a datagram, with
+/// the payload of its segment.
 pub fn clean_keeps_payload()
     ensures { CleanKeepsPayload }
 {
@@ -88,7 +91,8 @@ pub fn clean_keeps_payload()
     mended_say_the_same();
 }
 
-/// No more blocks hold octets than there are cells, and no more of one era than the quota.
+/// Proves that no more blocks hold octets than there are cells, and no more of one era than the
+/// quota.
 pub fn held_is_bounded()
     ensures { HeldIsBounded }
 {
@@ -104,7 +108,7 @@ pub fn held_is_bounded()
     calls_are_emitted();
 }
 
-/// Where the cells are as many as all eras may hold together, T_ROOM drops nothing.
+/// Proves that where the cells are as many as all eras may hold together, T_ROOM drops nothing.
 pub fn quota_leaves_room()
     ensures { QuotaLeavesRoom }
 {
@@ -127,8 +131,9 @@ pub fn octets_are_brought()
     calls_are_emitted();
 }
 
-/// Proves that T_CLASH applies to a datagram that no rule drops exactly if it has neither SYN nor RST,
-/// and has, at an offset at or past Acked, another octet than the era's stream.
+/// Proves when T_CLASH applies to a datagram that no rule drops. It does so exactly if the datagram
+/// has neither SYN nor RST, and has, at an offset at or past Acked, an octet that differs from the
+/// era's stream.
 pub fn clashes_are_real()
     ensures { ClashesAreReal }
 {

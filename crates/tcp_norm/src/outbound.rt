@@ -127,9 +127,12 @@ impl TcpNorm {
             self.arrive(now);
             return Step::outside(false);
         }
-        match self.admit(hashed, &era_of(seg), now) {
-            None => Step::outside(true),
-            Some(place) => Step::begun(place),
+        match self.room() {
+            None => {
+                self.arrive(now);
+                Step::outside(true)
+            }
+            Some(room) => Step::begun(self.admit(room, hashed, &era_of(seg), now)),
         }
     }
 
@@ -161,7 +164,7 @@ impl TcpNorm {
     }
 }
 
-// Returns T_SUM_OUT where the checksum of a segment is wrong.
+// Returns T_SUM_OUT if the checksum of a segment is wrong.
 fn summed(wrong: bool) -> Fixes
     ensures few { length result.items ≤ 1 }
     ensures rows { result.items ≡ where_holds wrong rules.TSumOut }
@@ -171,7 +174,7 @@ fn summed(wrong: bool) -> Fixes
     rows
 }
 
-// The era that an outbound segment begins.
+// Returns the era that an outbound segment begins.
 fn era_of(seg: &Seg) -> Era
     requires legal { IsLegal seg.now }
     requires no_rst { tcp.has_rst seg.now.flags.0 ≡ false }

@@ -1,4 +1,4 @@
-//! What an era is asked about a segment, and its options as they go out.
+//! What an era is asked about a segment, and its options as they are sent.
 ghost use Rattle.std.specs.Prelude.{◌≡◌, ◌<◌, ◌^◌, ◌+◌, ◌≤◌, ◌%◌, length, false, true, if◌then◌else◌};
 ghost use Rattle.wire_base.specs.Tcp as tcp;
 ghost use Rattle.wire_base.specs.Options as spec;
@@ -18,7 +18,7 @@ use tcp_codec::laws::{cleaned_keep_the_scale, cleaned_lose_the_scale, options_ar
 use tcp_codec::scale_of;
 use wire_base::FlowKey;
 
-/// The segment of these octets, of which the header was read.
+/// Returns the segment of these octets, whose header was read.
 pub(crate) fn seg_of(arrival: &Arrival<'_>) -> Seg
     ensures inward { received result (tcp.payload arrival.now.packet.now.payload.now) ≡ read true arrival.now.packet.now.payload.now }
     ensures outward { sent result (tcp.payload arrival.now.packet.now.payload.now) ≡ read false arrival.now.packet.now.payload.now }
@@ -37,7 +37,7 @@ pub(crate) fn seg_of(arrival: &Arrival<'_>) -> Seg
     }
 }
 
-/// The four-tuple of an outbound segment.
+/// Returns the four-tuple of an outbound segment.
 pub(crate) fn outward_key(arrival: &Arrival<'_>) -> FlowKey
     ensures { result ≡ key_at Outward arrival.now.packet.now.head arrival.now.packet.now.payload.now }
 {
@@ -51,7 +51,7 @@ pub(crate) fn outward_key(arrival: &Arrival<'_>) -> FlowKey
     }
 }
 
-/// The four-tuple of an inbound segment.
+/// Returns the four-tuple of an inbound segment.
 pub(crate) fn inward_key(arrival: &Arrival<'_>) -> FlowKey
     ensures { result ≡ key_at Inward arrival.now.packet.now.head arrival.now.packet.now.payload.now }
 {
@@ -65,7 +65,7 @@ pub(crate) fn inward_key(arrival: &Arrival<'_>) -> FlowKey
     }
 }
 
-/// The addresses of a datagram have 32 bits, and its octets 8.
+/// Proves that the addresses of a datagram have 32 bits, and its octets 8.
 pub(crate) fn are_bits(ip: &Ipv4, octets: &[u8])
     ensures { AreBits ip.now octets.now }
 {
@@ -74,12 +74,13 @@ pub(crate) fn are_bits(ip: &Ipv4, octets: &[u8])
     let _count = octets.len();
 }
 
-// A number of 32 bits.
+// Proves that a number has 32 bits.
 fn has_bits(number: u32)
     ensures { number < 2 ^ 32 }
 {}
 
-/// What goes inwards of a SYN or a RST: without octets and urgent marks, with cleaned options.
+/// Returns what goes inwards of a SYN or a RST: without octets and urgent marks, with cleaned
+/// options.
 pub(crate) fn bare_seg(arrival: &Arrival<'_>) -> Seg
     ensures read { came result ≡ bare_read arrival.now.packet.now.payload.now }
     ensures flags { tcp.are_legal result.flags.0 ≡ true }
@@ -95,7 +96,7 @@ pub(crate) fn bare_seg(arrival: &Arrival<'_>) -> Seg
     }
 }
 
-// The window shift of the options of a segment as they go out: only a SYN keeps it.
+// Returns the window shift of the options of a segment as they are sent: only a SYN keeps it.
 fn scale_sent(arrival: &Arrival<'_>) -> Option<u8>
     ensures { result ≡ spec.scale_of (cleaned (tcp.has_syn arrival.now.head.now.flags.0) (tcp.options arrival.now.packet.now.payload.now)) }
 {
@@ -108,7 +109,7 @@ fn scale_sent(arrival: &Arrival<'_>) -> Option<u8>
     }
 }
 
-/// What a segment carries.
+/// Returns what a segment carries.
 pub(crate) fn payload_of<'a>(arrival: &Arrival<'a>) -> &'a [u8]
     ensures { result.now ≡ tcp.payload arrival.now.packet.now.payload.now }
 {
@@ -117,7 +118,7 @@ pub(crate) fn payload_of<'a>(arrival: &Arrival<'a>) -> &'a [u8]
     &octets[head.header..]
 }
 
-/// The options of a segment.
+/// Returns the options of a segment.
 pub(crate) fn options_of<'a>(arrival: &Arrival<'a>) -> &'a [u8]
     ensures area { result.now ≡ tcp.options arrival.now.packet.now.payload.now }
     ensures formed { are_well_formed result.now ≡ true }

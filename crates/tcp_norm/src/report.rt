@@ -102,7 +102,8 @@ pub(crate) fn report_passed(
     add_ended(&mut entry.ended, step.ended);
 }
 
-/// Reports a datagram that continues the era of this number and is sent alone, of which no rule of its connection holds.
+/// Reports a datagram that continues the era of this number and is sent alone, and to which no rule
+/// of its connection applies.
 pub(crate) fn report_within(number: u32, fixes: &Fixes, entry: &mut Entry)
     requires fixes { length fixes.now.items ≤ 6 }
     ensures { (sent : List Packet) → length sent ≡ 1 → Reports entry.old entry.new (passed (continued_in number) fixes.now.items [] sent) }
@@ -126,7 +127,7 @@ fn verdict_by(fixes: &Fixes) -> Verdict
     }
 }
 
-/// Returns how many packets are sent for a datagram with this probe behind its own.
+/// Returns how many packets are sent for a datagram with this probe after its own.
 pub(crate) fn packets_with(probe: Option<Probe>) -> u8
     ensures { result ≡ (if is_some probe then 2 else 1) }
 {

@@ -45,8 +45,9 @@ fn rows_on_header(head: &Tcp, options: bool) -> ArrayVec<Rule, 16>
     rules
 }
 
-/// Returns the rules that hold of a segment. `kept` is the interval that goes inwards, `options` says whether options change, and `clash` whether an octet
-/// differs from the one that was sent first at its offset.
+/// Returns the rules that apply to a segment. `kept` is the interval that goes inwards, `options`
+/// says whether options change, and `clash` whether an octet differs from the one that was sent
+/// first at its offset.
 pub(crate) fn rows_of(head: &Tcp, options: bool, kept: &Interval, clash: bool) -> ArrayVec<Rule, 16>
     ensures few { length result.items ≤ 9 }
     ensures rows { result.items ≡ stream_rows (header_rows head.now options) kept.now clash }
@@ -69,7 +70,8 @@ fn is_loaded(arrival: &Arrival<'_>) -> bool
     (syn || rst) && some
 }
 
-/// Returns the rules that hold of a segment that brings no octet of the stream; `options` says whether options change, `probe` whether a probe is sent.
+/// Returns the rules that apply to a segment that brings no octet of the stream; `options` says
+/// whether options change, `probe` whether a probe is sent.
 pub(crate) fn rows_beside(arrival: &Arrival<'_>, options: bool, probe: bool) -> ArrayVec<Rule, 16>
     ensures few { length result.items ≤ 9 }
     ensures rows { result.items ≡ bare_rows (header_rows arrival.now.head.now options)

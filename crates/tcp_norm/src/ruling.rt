@@ -6,7 +6,8 @@ use era_state::{Interval, Probe};
 use ip_rules::Fixes;
 use rule_book::Rule;
 
-/// A segment that this rule drops, with the number of its live era and the probe that is sent instead.
+/// A segment that this rule drops, with the number of its live era and the probe that is sent
+/// instead.
 #[derive(Clone, Copy)]
 pub(crate) struct Refusal {
     pub(crate) rule: Rule,
@@ -14,8 +15,9 @@ pub(crate) struct Refusal {
     pub(crate) probe: Option<Probe>,
 }
 
-/// A segment that passes: what it does to the eras, the rules that rewrite it, and, for one that is rewritten, its sequence number, whether its FIN
-/// stays and the number of its octets, which are at the front of the scratch; and the probe that is sent behind it.
+/// A segment that passes: what it does to the eras, the rules that rewrite it, and the probe that
+/// is sent after it. If it is rewritten, also its sequence number, whether its FIN stays and the
+/// number of its octets, which are at the front of the scratch.
 #[derive(Drop)]
 pub(crate) struct Passage {
     pub(crate) step: Step,
@@ -27,7 +29,8 @@ pub(crate) struct Passage {
     ghost few: { length rows.items ≤ 9 },
 }
 
-/// A segment that belongs to no era, of which only a probe to its host is sent, and the rules that hold.
+/// A segment that belongs to no era, of which only a probe to its host is sent, and the rules that
+/// hold.
 #[derive(Drop)]
 pub(crate) struct Question {
     pub(crate) rows: Fixes,
@@ -53,10 +56,13 @@ impl Ruling {
     }
 }
 
-/// The octets of an interval that an era takes: the segment's own if it is sent as it was read, and otherwise as many at the front of the scratch.
+/// The octets of an interval that an era takes: the segment's own if it is sent as it was read, and
+/// otherwise as many at the front of the scratch. If `whole`, the store has an octet at each of
+/// their offsets.
 #[derive(Clone, Copy)]
 pub(crate) struct Taking<'a> {
     pub(crate) kept: Interval,
     pub(crate) own: &'a [u8],
     pub(crate) as_read: bool,
+    pub(crate) whole: bool,
 }

@@ -25,7 +25,8 @@ pub(crate) struct Limits {
     pub(crate) quota: Option<u32>,
 }
 
-/// Judges the segments of TCP connections, one after another. It takes all its memory when it is opened.
+/// Judges the segments of TCP connections, one after another. It takes all its memory when it is
+/// opened.
 #[derive(Drop)]
 pub struct TcpNorm {
     pub(crate) table: LinkedTable<EraKey, Flow>,
@@ -40,7 +41,8 @@ pub struct TcpNorm {
     pub(crate) calls: u32,
     /// The greatest time of a call, in seconds.
     pub(crate) latest: u32,
-    /// Buffer for the octets of an inbound segment that a rule rewrites, and for a segment whose checksum is computed again.
+    /// Buffer for the octets of an inbound segment that a rule rewrites, and for a segment whose
+    /// checksum is computed again.
     pub(crate) scratch: Vec<u8>,
     /// Buffer for a segment that is rewritten.
     pub(crate) page: Vec<u8>,
@@ -72,7 +74,7 @@ impl TcpNorm {
     ghost use Rattle.wire_base.specs.declared.address.FlowKey.{FlowKey};
     ghost use Rattle.rule_book.specs.declared.rule.Rule.TheVariants as rules;
 
-    /// No era is live, and none began.
+    /// Opens the state: no era is live, and none began.
     pub fn open(alloc: Global, settings: &Settings) -> Result<TcpNorm, NoMemory>
         requires { AreInRange (plain_settings settings.now) }
         ensures { IfOk result (λ norm. StandsFor (plain_settings settings.now) norm []) }
@@ -101,7 +103,7 @@ impl TcpNorm {
         })
     }
 
-    /// Whether an era of this connection is live.
+    /// Returns whether an era of this connection is live.
     pub fn live(&self, key: &FlowKey) -> bool
         ensures { (settings : PlainSettings) (calls : List Call) → StandsFor settings self.now calls → result ≡ is_some (live calls key.now) }
     {
@@ -109,7 +111,7 @@ impl TcpNorm {
         self.table.find(&EraKey(*key)).is_some()
     }
 
-    /// How many eras are live.
+    /// Returns how many eras are live.
     pub fn flows(&self) -> u32
         ensures number { (settings : PlainSettings) (calls : List Call) → StandsFor settings self.now calls → result ≡ length (eras calls) }
         ensures bounded { (settings : PlainSettings) (calls : List Call) → StandsFor settings self.now calls → result ≤ settings.flows }
@@ -117,8 +119,8 @@ impl TcpNorm {
         self.table.len()
     }
 
-    /// How many cells hold octets. Where a quota is set no live era holds more cells than that, and where there are as many cells as all eras may hold
-    /// together, T_ROOM drops nothing.
+    /// Returns how many cells hold octets. If a quota is set, no live era holds more cells than
+    /// that. If there are as many cells as all eras may hold together, T_ROOM drops nothing.
     pub fn held(&self) -> u32
         ensures number { (settings : PlainSettings) (calls : List Call) → StandsFor settings self.now calls → result ≡ held_all calls }
         ensures bounded { (settings : PlainSettings) (calls : List Call) → StandsFor settings self.now calls → result ≤ settings.cells }

@@ -1,13 +1,22 @@
 //! What a datagram does to the eras.
+use linked_table::Slot;
 use rule_book::{Ended, Reason};
 
-/// The era that the datagram belongs to, the one that it began, the one that ended with it, and whether T_FULL holds.
+/// The era that the datagram belongs to, the one that it began, the one that ended with it, and
+/// whether T_FULL holds.
 #[derive(Clone, Copy)]
 pub struct Step {
     pub era: Option<u32>,
     pub begun: Option<u32>,
     pub ended: Option<Ended>,
     pub full: bool,
+}
+
+/// Where an era can begin: in a free slot, or in the slot of the era that ends for it.
+#[derive(Clone, Copy)]
+pub(crate) enum Room {
+    Free,
+    Spare(Slot),
 }
 
 /// The number of an era that begins, and the one that ended to make room for it, if one did.
@@ -91,7 +100,8 @@ impl Step {
         }
     }
 
-    // Returns the step of a segment that begins this era and ends the one before, which had this number of octets.
+    // Returns the step of a segment that begins this era and ends the one before, which had this
+    // number of octets.
     pub(crate) fn reopened(number: u32, before: u32, octets: u64) -> Step
         ensures { result ≡ record { era = Some number; begun = Some number; ended = Some (record { era = before; reason = reasons.Reopened; octets = Some octets }); full = false } }
     {

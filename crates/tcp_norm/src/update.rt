@@ -32,7 +32,8 @@ impl TcpNorm {
     ghost use Rattle.tcp_norm.specs.Rulings.{IsCounted, IsHeld, IsLegal, Brings, CanTake, Extends, Hears, Reopens};
     ghost use Rattle.wire_base.specs.Segments.{Written};
 
-    /// Changes the live era in this slot by an inbound SYN that neither reopens it nor is dropped. It acknowledges nothing, so no octet is forgotten.
+    /// Changes the live era in this slot by an inbound SYN that neither reopens it nor is dropped.
+    /// It acknowledges nothing, so no octet is forgotten.
     pub(crate) fn hear(&mut self, slot: Slot, seg: &Seg, now: u32)
         requires inside { IsIn self.old.table.entries slot }
         requires legal { IsLegal seg.now }
@@ -52,7 +53,8 @@ impl TcpNorm {
         list_spare(&mut self.spare, &self.store, slot);
     }
 
-    /// Touches the live era in this slot with a segment that arrives at this time and brings no octet of the stream.
+    /// Touches the live era in this slot with a segment that arrives at this time and brings no
+    /// octet of the stream.
     pub(crate) fn touch(&mut self, slot: Slot, now: u32)
         requires inside { IsIn self.old.table.entries slot }
         requires ready { IsReady self.old now }
@@ -70,7 +72,8 @@ impl TcpNorm {
         list_spare(&mut self.spare, &self.store, slot);
     }
 
-    /// Ends the live era in this slot and begins another of its connection by an inbound SYN that arrives at this time.
+    /// Ends the live era in this slot and begins another of its connection by an inbound SYN that
+    /// arrives at this time.
     #[inline(never)]
     pub(crate) fn offer(&mut self, slot: Slot, key: FlowKey, era: &Offered, now: u32)
         requires inside { IsIn self.old.table.entries slot }
@@ -82,7 +85,8 @@ impl TcpNorm {
         self.reopen(slot, key, &Era::Offered(*era), now);
     }
 
-    /// Changes the live era in this slot by an outbound segment that arrives at this time and neither ends nor reopens it: acknowledged octets are forgotten.
+    /// Changes the live era in this slot by an outbound segment that arrives at this time and
+    /// neither ends nor reopens it: acknowledged octets are forgotten.
     pub(crate) fn send(&mut self, slot: Slot, seg: &Seg, now: u32)
         requires inside { IsIn self.old.table.entries slot }
         requires legal { IsLegal seg.now }
@@ -104,8 +108,8 @@ impl TcpNorm {
         list_spare(&mut self.spare, &self.store, slot);
     }
 
-    /// Takes the octets of a segment, its own or those at the front of the scratch, and its FIN into the live era in this slot, with a segment that arrives at
-    /// this time.
+    /// Takes the octets of a segment, its own or those at the front of the scratch, and its FIN
+    /// into the live era in this slot, with a segment that arrives at this time.
     pub(crate) fn take_octets(&mut self, slot: Slot, taking: &Taking<'_>, now: u32)
         requires inside { IsIn self.old.table.entries slot }
         requires can { CanTake self.old.table.entries self.old.store self.old.limits.quota slot taking.now }
@@ -129,21 +133,23 @@ impl TcpNorm {
     }
 }
 
-// Adds the octets that an era takes to its chain, and returns how many are the first at their offsets. Those that are rewritten are at the front of
-// the scratch.
+// Adds the octets that an era takes to its chain, and returns how many are the first at their
+// offsets. Those that are rewritten are at the front of the scratch.
 fn place_taken(store: &mut Retain, chain: ChainId, taking: &Taking<'_>, scratch: &[u8]) -> usize
     requires chain_in_range { chain.0 < length store.old.chains }
     requires can { CanPlace store.old chain.0 taking.now scratch.now }
     ensures { PlacesOctets store.old store.new chain.0 taking.now.kept.lo (taken taking.now scratch.now) result }
 {
     if taking.as_read {
-        store.place_counting(chain, taking.kept.lo, taking.own)
+        store.place_known(chain, taking.kept.lo, taking.own, taking.whole)
     } else {
-        store.place_counting(chain, taking.kept.lo, &scratch[..taking.own.len()])
+        let octets = &scratch[..taking.own.len()];
+        store.place_known(chain, taking.kept.lo, octets, taking.whole)
     }
 }
 
-// Changes the era in a slot by an outbound segment and touches it at this time, and returns its greatest acknowledged offset.
+// Changes the era in a slot by an outbound segment and touches it at this time, and returns its
+// greatest acknowledged offset.
 fn send_in(table: &mut LinkedTable<EraKey, Flow>, slot: Slot, seg: &Seg, now: u32) -> u64
     requires inside { IsIn table.old.entries slot }
     requires legal { IsLegal seg.now }
@@ -182,8 +188,8 @@ fn touch_in(table: &mut LinkedTable<EraKey, Flow>, slot: Slot, now: u32)
     table.touch(slot);
 }
 
-// Changes the era in a slot by a frame with these octets and this FIN, of which `fresh` octets are the first at their offsets, and touches it at this
-// time.
+// Changes the era in a slot by a frame with these octets and this FIN, of which `fresh` octets are
+// the first at their offsets, and touches it at this time.
 fn take_in(table: &mut LinkedTable<EraKey, Flow>, slot: Slot, kept: &Interval, fresh: u32, now: u32)
     requires inside { IsIn table.old.entries slot }
     requires given { Wherever table.old.entries slot (λ e. GivesTo e.value.era kept.now) }

@@ -1,4 +1,5 @@
-//! A segment with neither SYN nor RST of an era that has no acknowledged offset: T_STATE drops it, and a probe is sent.
+//! A segment with neither SYN nor RST of an era that has no acknowledged offset: T_STATE drops it,
+//! and a probe is sent.
 ghost use Rattle.std.specs.Prelude.{◌≡◌, false, None};
 ghost use Rattle.wire_base.specs.declared.address.FlowKey.{FlowKey};
 ghost use Rattle.linked_table.specs.declared.table.Slot.{Slot};

@@ -1,8 +1,8 @@
-//! A segment without SYN and RST: T_STATE drops it in an era without an acknowledged offset, T_QUOTA or T_ROOM if its octets do not fit, or it passes with
-//! the octets that were sent first.
+//! A segment without SYN and RST: T_STATE drops it in an era without an acknowledged offset,
+//! T_QUOTA or T_ROOM if its octets do not fit, or it passes with the octets that were sent first.
 ghost use Rattle.std.specs.Prelude.{◌≡◌, ◌==◌, ◌↔◌, ℕ, ◌+◌, ◌-◌, ◌<◌, ◌≤◌, ◌^◌, nat_lt, pos, ◌-ℤ◌, List, length, take, slice_index, false, Some, None, IfNone, IfSome, IsTrue, if◌then◌else◌};
 ghost use Rattle.wire_base.specs.Segments.{Written};
-ghost use Rattle.retain_store.specs.Maps.{IsWithin, Settles, chain_of, missing};
+ghost use Rattle.retain_store.specs.Maps.{Agrees, IsWhole, IsWithin, Settles, chain_of, missing};
 ghost use Rattle.era_state.specs.Offsets.{off, nat_of};
 ghost use Rattle.era_state.specs.Standing.{bounds_in};
 ghost use Rattle.era_state.specs.Intervals.{Keeps, KeptOf};
@@ -31,14 +31,15 @@ use era_state::laws::states_are_the_lists;
 use era_state::{Era, Interval, Seg, Warm};
 use ip_rules::Fixes;
 use linked_table::Slot;
-use retain_store::{ChainId, Retain};
+use retain_store::{ChainId, Found, Retain};
 use rule_book::Rule;
 
 impl TcpNorm {
     ghost use Rattle.tcp_norm.specs.declared.brief.Brief.TheVariants.{Ruled};
     ghost use Rattle.tcp_norm.specs.Rulings.{CanTake, DecidesIn, IsLiveIn, IsPlain, IsSame, IsShort};
 
-    // Returns what the era takes, if no rule drops the segment. Only the scratch and the hint of the chain change.
+    // Returns what the era takes, if no rule drops the segment. Only the scratch and the hint of
+    // the chain change.
     pub(super) fn decide_stream<'a>(
         &mut self,
         slot: Slot,
@@ -66,11 +67,13 @@ impl TcpNorm {
         };
         let seg = seg_of(arrival);
         let kept = warm.interval(&seg);
-        let ends = aim(&mut self.store, ChainId(slot.0), &kept);
+        let own = own_octets(&kept, warm, &seg, payload_of(arrival));
+        let found = look(&mut self.store, ChainId(slot.0), &kept, own);
         let piece = Piece {
             store: &self.store,
             chain: ChainId(slot.0),
             kept: &kept,
+            found,
         };
         if let Some(rule) = refusal(&piece, self.limits.quota) {
             return Decided {
@@ -78,11 +81,10 @@ impl TcpNorm {
                 taking: None,
             };
         }
-        let own = own_octets(&piece, warm, &seg, payload_of(arrival));
-        let clash = clashes(&piece, own, ends);
+        let clash = clashes(&piece, own);
         let changed = options_change(arrival);
         let rows = rows_of(arrival.head, changed, &kept, clash);
-        let as_read = fill_kept(&piece, own, &rows, &mut self.scratch);
+        let as_read = fill_kept(&piece, own, &rows, clash, &mut self.scratch);
         let number = flow.number;
         let passage = Passage {
             step: Step::within(number),
@@ -94,7 +96,12 @@ impl TcpNorm {
         };
         Decided {
             brief: pass(number, passage, ruling),
-            taking: Some(Taking { kept, own, as_read }),
+            taking: Some(Taking {
+                kept,
+                own,
+                as_read,
+                whole: found.repeats,
+            }),
         }
     }
 }
@@ -112,15 +119,19 @@ fn warm_of(era: &Era) -> Option<&Warm>
     }
 }
 
-/// An interval of a segment, no longer than the longest segment, and the chain of its era in the store.
+/// An interval of a segment, no longer than the longest segment, the chain of its era in the store,
+/// and what the store found there.
 #[derive(Clone, Copy)]
 pub(crate) struct Piece<'a> {
     pub(crate) store: &'a Retain,
     pub(crate) chain: ChainId,
     pub(crate) kept: &'a Interval,
+    pub(crate) found: Found,
     ghost chain_in_range: { chain.0 < length store.now.chains },
     ghost order: { kept.now.lo ≤ kept.now.hi },
     ghost short: { kept.now.hi ≤ kept.now.lo + MAX_PAYLOAD },
+    ghost ends: { IsTrue found.ends → IsWithin (chain_of store.now chain.0) kept.now.lo },
+    ghost whole: { IsTrue found.repeats → IsWhole (chain_of store.now chain.0) kept.now.lo (kept.now.hi - kept.now.lo) },
 }
 
 impl Piece<'_> {
@@ -135,48 +146,81 @@ impl Piece<'_> {
     }
 }
 
-// Has the calls that follow find the first block of the interval at once. Returns true only if no offset from there on has an octet.
-fn aim(store: &mut Retain, chain: ChainId, kept: &Interval) -> bool
-    requires { chain.0 < length store.old.chains }
+// Looks at the block of the first octet, and has the calls that follow find it at once. Without
+// octets there is nothing to add.
+fn look(store: &mut Retain, chain: ChainId, kept: &Interval, own: &[u8]) -> Found
+    requires chain_in_range { chain.0 < length store.old.chains }
+    requires order { kept.now.lo ≤ kept.now.hi }
+    requires long { length own.now ≡ kept.now.hi - kept.now.lo }
     ensures same { store.new ≡ store.old }
-    ensures ends { IsTrue result → IsWithin (chain_of store.old chain.0) kept.now.lo }
+    ensures ends { IsTrue result.ends → IsWithin (chain_of store.old chain.0) kept.now.lo }
+    ensures whole { IsTrue result.repeats → IsWhole (chain_of store.old chain.0) kept.now.lo (length own.now) }
+    ensures agrees { IsTrue result.repeats → Agrees (chain_of store.old chain.0) kept.now.lo own.now }
 {
     if kept.lo < kept.hi {
-        return store.aim(chain, kept.lo);
+        return store.look(chain, kept.lo, own);
     }
-    false
+    Found {
+        ends: false,
+        repeats: true,
+    }
 }
 
 // Returns the segment's own octets at the offsets of the interval.
-fn own_octets<'a>(piece: &Piece<'_>, warm: &Warm, seg: &Seg, payload: &'a [u8]) -> &'a [u8]
+fn own_octets<'a>(kept: &Interval, warm: &Warm, seg: &Seg, payload: &'a [u8]) -> &'a [u8]
     requires legal { IsLegal seg.now }
-    requires kept { Keeps (bounds_in warm.now) (off warm.now.base warm.now.acked seg.now.seq) seg.now.len (tcp.has_fin seg.now.flags.0) piece.now.kept.now }
+    requires order { kept.now.lo ≤ kept.now.hi }
+    requires kept { Keeps (bounds_in warm.now) (off warm.now.base warm.now.acked seg.now.seq) seg.now.len (tcp.has_fin seg.now.flags.0) kept.now }
     requires long { length payload.now ≡ seg.now.len }
-    ensures long { length result.now ≡ piece.now.kept.now.hi - piece.now.kept.now.lo }
-    ensures own { (i : ℕ) → i < piece.now.kept.now.hi - piece.now.kept.now.lo →
-        slice_index result.now i ≡ slice_index payload.now (nat_of (pos (piece.now.kept.now.lo + i) -ℤ off warm.now.base warm.now.acked seg.now.seq)) }
+    ensures long { length result.now ≡ kept.now.hi - kept.now.lo }
+    ensures own { (i : ℕ) → i < kept.now.hi - kept.now.lo →
+        slice_index result.now i ≡ slice_index payload.now (nat_of (pos (kept.now.lo + i) -ℤ off warm.now.base warm.now.acked seg.now.seq)) }
 {
-    if piece.kept.lo < piece.kept.hi {
-        let start = warm.octets_before(seg, piece.kept) as usize;
-        let size = piece.size() as usize;
+    if kept.lo < kept.hi {
+        let start = warm.octets_before(seg, kept) as usize;
+        let size = (kept.hi - kept.lo) as usize;
         &payload[start..start + size]
     } else {
         &payload[..0]
     }
 }
 
-// Returns whether an era would hold more cells than the quota, if one is set, with the octets that are sent inwards.
+// Returns how many cells the octets need.
+fn cells_wanted(piece: &Piece<'_>) -> u32
+    ensures { result ≡ missing (chain_of piece.now.store.now piece.now.chain.0) piece.now.kept.now.lo (piece.now.kept.now.hi - piece.now.kept.now.lo) }
+{
+    if piece.found.repeats {
+        return 0;
+    }
+    piece.store.need(piece.chain, piece.kept.lo, piece.size())
+}
+
+// Returns whether as many cells are free as the octets need.
+fn has_room(piece: &Piece<'_>) -> bool
+    ensures { IsTrue result ↔ missing (chain_of piece.now.store.now piece.now.chain.0) piece.now.kept.now.lo (piece.now.kept.now.hi - piece.now.kept.now.lo) ≤ piece.now.store.now.free }
+{
+    if piece.found.repeats {
+        return true;
+    }
+    piece
+        .store
+        .has_room(piece.chain, piece.kept.lo, piece.size())
+}
+
+// Returns whether an era would hold more cells than the quota, if one is set, with the octets that
+// are sent inwards.
 fn is_over(piece: &Piece<'_>, quota: Option<u32>) -> bool
     ensures { result ≡ exceeds quota (length (chain_of piece.now.store.now piece.now.chain.0) + missing (chain_of piece.now.store.now piece.now.chain.0) piece.now.kept.now.lo (piece.now.kept.now.hi - piece.now.kept.now.lo)) }
 {
     let Some(most) = quota else {
         return false;
     };
-    let wanted = piece.store.need(piece.chain, piece.kept.lo, piece.size());
+    let wanted = cells_wanted(piece);
     u64::from(most) < u64::from(piece.store.held(piece.chain)) + u64::from(wanted)
 }
 
-// Returns the rule that drops an inbound segment of the stream, if its octets need more cells than its era may take, or than are free.
+// Returns the rule that drops an inbound segment of the stream, if its octets need more cells than
+// its era may take, or than are free.
 fn refusal(piece: &Piece<'_>, quota: Option<u32>) -> Option<Rule>
     ensures value { (ws : List Written) (w : Written) → chains.Keeps (chain_of piece.now.store.now piece.now.chain.0) ws → length (chain_of piece.now.store.now piece.now.chain.0) ≡ held_of ws → KeptOf ws w piece.now.kept.now →
         result ≡ (if exceeds quota (held_of ws + wanted_of ws w) then Some rules.TQuota else if nat_lt piece.now.store.now.free (wanted_of ws w) then Some rules.TRoom else None) }
@@ -188,22 +232,24 @@ fn refusal(piece: &Piece<'_>, quota: Option<u32>) -> Option<Rule>
     if over {
         return Some(Rule::TQuota);
     }
-    let fits = piece
-        .store
-        .has_room(piece.chain, piece.kept.lo, piece.size());
+    let fits = has_room(piece);
     if !fits {
         return Some(Rule::TRoom);
     }
     None
 }
 
-// Returns whether an octet of the segment differs from the one that was sent first at its offset; if `ends`, none was sent from there on.
-fn clashes(piece: &Piece<'_>, own: &[u8], ends: bool) -> bool
+// Returns whether an octet of the segment differs from the one that was sent first at its offset.
+fn clashes(piece: &Piece<'_>, own: &[u8]) -> bool
     requires long { length own.now ≡ piece.now.kept.now.hi - piece.now.kept.now.lo }
-    requires ends { IsTrue ends → IsWithin (chain_of piece.now.store.now piece.now.chain.0) piece.now.kept.now.lo }
+    requires agrees { IsTrue piece.now.found.repeats → Agrees (chain_of piece.now.store.now piece.now.chain.0) piece.now.kept.now.lo own.now }
     ensures { (result ≡ false) ↔ Settles (chain_of piece.now.store.now piece.now.chain.0) piece.now.kept.now.lo own.now own.now }
 {
+    let Found { ends, repeats } = piece.found;
     if ends {
+        return false;
+    }
+    if repeats {
         return false;
     }
     // The end of the interval is below 2^64.
@@ -211,10 +257,13 @@ fn clashes(piece: &Piece<'_>, own: &[u8], ends: bool) -> bool
     !piece.store.agrees(piece.chain, piece.kept.lo, own)
 }
 
-// Fills the front of the scratch with the octets that were sent first, and where there is none with the segment's own, if a rule rewrites the segment.
-// Returns true if no rule does.
-fn fill_kept(piece: &Piece<'_>, own: &[u8], rows: &Fixes, scratch: &mut [u8]) -> bool
+// Fills the front of the scratch with the octets that were sent first, and where there is none with
+// the segment's own, if a rule rewrites the segment. `clash` says whether an octet differs from the
+// one that was sent first at its offset: otherwise none is looked up. Returns true if no rule
+// rewrites it.
+fn fill_kept(piece: &Piece<'_>, own: &[u8], rows: &Fixes, clash: bool, scratch: &mut [u8]) -> bool
     requires long { length own.now ≡ piece.now.kept.now.hi - piece.now.kept.now.lo }
+    requires own { clash ≡ false → Settles (chain_of piece.now.store.now piece.now.chain.0) piece.now.kept.now.lo own.now own.now }
     requires room { MAX_PAYLOAD ≤ length scratch.old }
     ensures as_read { result ≡ (length rows.now.items == 0) }
     ensures settled { result ≡ false → Settles (chain_of piece.now.store.now piece.now.chain.0) piece.now.kept.now.lo own.now (take (length own.now) scratch.new) }
@@ -224,6 +273,9 @@ fn fill_kept(piece: &Piece<'_>, own: &[u8], rows: &Fixes, scratch: &mut [u8]) ->
     }
     let octets = &mut scratch[..piece.size() as usize];
     octets.copy_from_slice(own);
+    if !clash {
+        return false;
+    }
     let _differs = piece.store.settle(piece.chain, piece.kept.lo, octets);
     false
 }

@@ -1,4 +1,5 @@
-//! A SYN of a live era: T_STATE or T_SYN drops it and a probe is sent, or it passes, in its era or as the first segment of another.
+//! A SYN of a live era: T_STATE or T_SYN drops it and a probe is sent, or it passes, in its era or
+//! as the first segment of another.
 ghost use Rattle.std.specs.Prelude.{◌≡◌, List};
 ghost use Rattle.wire_base.specs.Segments.{Written};
 ghost use Rattle.era_state.specs.Eras as eras;

@@ -3,6 +3,13 @@ use Rattle.std.proofs.Math.Seq.{take-append_seam}
 use Rattle.retain_store.specs.Maps.{Settles, chain_of}
 use Rattle.tcp_norm.proofs.decide.stream.fill_kept.Goals as goal
 
+pub returns-then-not-clash-clause-settled : goal.returns-then-not-clash-clause-settled
+returns-then-not-clash-clause-settled c some =
+    let own = c.args.own.now in
+    let rest = drop c.size.result c.args.scratch.now in
+    let front : take (length own) (c.copy_from_slice.new.self ++ rest) ≡ own = ap (λ xs. take (length own) (xs ++ rest)) c.copy_from_slice.ensures.after ∙ take-append_seam own rest in
+    subst (Settles (chain_of c.args.piece.now.store.now c.args.piece.now.chain.0) c.args.piece.now.kept.now.lo own) (sym front) (c.requires.own c.if-not-clash.true)
+
 pub returns-clause-settled : goal.returns-clause-settled
 returns-clause-settled c some =
     let blocks = chain_of c.args.piece.now.store.now c.args.piece.now.chain.0 in

@@ -6,7 +6,7 @@ use Rattle.wire_base.specs.Options.{cleaned}
 use Rattle.wire_base.specs.Segments.{Written}
 use Rattle.ipv4_codec.specs.declared.header.Ipv4.{Ipv4}
 use Rattle.tcp_codec.specs.declared.header.Tcp.{Tcp}
-use Rattle.retain_store.specs.Maps.{Store, IsWithin, chain_of, missing}
+use Rattle.retain_store.specs.Maps.{Store, Agrees, IsWhole, IsWithin, chain_of, missing}
 use Rattle.tcp_norm.specs.Near.{AreBounded, IsAtMost}
 use Rattle.tcp_norm.specs.Spare.{spares}
 use Rattle.rule_book.specs.declared.rule.Rule.TheVariants as variants
@@ -67,38 +67,41 @@ invariant_of-piece c =
       chain_in_range = search rules;
       order = c.interval-kept.ensures.order;
       short = omega (arith, a.short, a.read.inside, c.interval-kept.ensures.short, c.seg_of-seg.ensures.len, payload_long a.packet.now.payload.now a.head.now a.read.fields);
+      ends = subst (λ s. IsTrue c.look-found.result.ends → IsWithin (chain_of s c.args.slot.0) c.interval-kept.result.lo) (sym c.look-found.ensures.same) c.look-found.ensures.ends;
+      whole = subst (λ n. IsTrue c.look-found.result.repeats → IsWhole (chain_of c.look-found.new.store c.args.slot.0) c.interval-kept.result.lo n) c.own_octets-own.ensures.long
+          (subst (λ s. IsTrue c.look-found.result.repeats → IsWhole (chain_of s c.args.slot.0) c.interval-kept.result.lo (length c.own_octets-own.result.now)) (sym c.look-found.ensures.same) c.look-found.ensures.whole);
     }
 
 pub invariant_of-self-in-Some-refusal : goal.invariant_of-self-in-Some-refusal
 invariant_of-self-in-Some-refusal c =
     let self = c.args.self.now in
     record {
-      sized = ap (λ (s : Store). length s.chains) c.aim-ends.ensures.same ∙ self.sized;
+      sized = ap (λ (s : Store). length s.chains) c.look-found.ensures.same ∙ self.sized;
       spare_sized = self.spare_sized;
-      spare_listed = self.spare_listed ∙ ap (λ s. spares s self.table.entries) (sym c.aim-ends.ensures.same);
+      spare_listed = self.spare_listed ∙ ap (λ s. spares s self.table.entries) (sym c.look-found.ensures.same);
       room = self.room;
       page_room = self.page_room;
       passes = self.passes;
       few = self.few;
       near = self.near;
-      bounded = subst (AreBounded self.limits.quota) (sym c.aim-ends.ensures.same) self.bounded;
+      bounded = subst (AreBounded self.limits.quota) (sym c.look-found.ensures.same) self.bounded;
     }
 
 pub invariant_of-self-2-clause-sized : goal.invariant_of-self-2-clause-sized
-invariant_of-self-2-clause-sized c = ap (λ (s : Store). length s.chains) c.aim-ends.ensures.same ∙ c.args.self.now.sized
+invariant_of-self-2-clause-sized c = ap (λ (s : Store). length s.chains) c.look-found.ensures.same ∙ c.args.self.now.sized
 
 pub invariant_of-self-2-clause-near : goal.invariant_of-self-2-clause-near
 invariant_of-self-2-clause-near c = c.args.self.now.near
 
 pub invariant_of-self-2-clause-spare_listed : goal.invariant_of-self-2-clause-spare_listed
-invariant_of-self-2-clause-spare_listed c = c.args.self.now.spare_listed ∙ ap (λ s. spares s c.args.self.now.table.entries) (sym c.aim-ends.ensures.same)
+invariant_of-self-2-clause-spare_listed c = c.args.self.now.spare_listed ∙ ap (λ s. spares s c.args.self.now.table.entries) (sym c.look-found.ensures.same)
 
 pub invariant_of-self-2-clause-bounded : goal.invariant_of-self-2-clause-bounded
-invariant_of-self-2-clause-bounded c = subst (AreBounded c.args.self.now.limits.quota) (sym c.aim-ends.ensures.same) c.args.self.now.bounded
+invariant_of-self-2-clause-bounded c = subst (AreBounded c.args.self.now.limits.quota) (sym c.look-found.ensures.same) c.args.self.now.bounded
 
-pub clashes-clash-requires-clause-ends : goal.clashes-clash-requires-clause-ends
-clashes-clash-requires-clause-ends c =
-    subst (λ s. IsTrue c.aim-ends.result → IsWithin (chain_of s c.args.slot.0) c.interval-kept.result.lo) (sym c.aim-ends.ensures.same) c.aim-ends.ensures.ends
+pub clashes-clash-requires-clause-agrees : goal.clashes-clash-requires-clause-agrees
+clashes-clash-requires-clause-agrees c =
+    subst (λ s. IsTrue c.look-found.result.repeats → Agrees (chain_of s c.args.slot.0) c.interval-kept.result.lo c.own_octets-own.result.now) (sym c.look-found.ensures.same) c.look-found.ensures.agrees
 
 -- the store is as it was
 same_store : (old new : TcpNorm) → new.store ≡ old.store → new.table ≡ old.table → new.limits ≡ old.limits
@@ -119,16 +122,16 @@ same_store old new store tables limits begun calls latest = record {
 }
 
 pub returns-in-Some-refusal-clause-same : goal.returns-in-Some-refusal-clause-same
-returns-in-Some-refusal-clause-same c = same_store c.args.self.now _ c.aim-ends.ensures.same refl refl refl refl refl
+returns-in-Some-refusal-clause-same c = same_store c.args.self.now _ c.look-found.ensures.same refl refl refl refl refl
 
 pub returns-clause-same : goal.returns-clause-same
-returns-clause-same c = same_store c.args.self.now _ c.aim-ends.ensures.same refl refl refl refl refl
+returns-clause-same c = same_store c.args.self.now _ c.look-found.ensures.same refl refl refl refl refl
 
 pub returns-clause-takes : goal.returns-clause-takes
 returns-clause-takes c =
     let a = c.args.arrival.now in
     let slot = c.args.slot in
-    let store = c.aim-ends.new.store in
+    let store = c.look-found.new.store in
     let seg = c.seg_of-seg.result in
     let kept = c.interval-kept.result in
     let long = c.own_octets-own.ensures.long in
@@ -138,6 +141,7 @@ returns-clause-takes c =
       long = omega (arith, long, c.interval-kept.ensures.order);
       fits = omega (arith, a.short, a.read.inside, c.interval-kept.ensures.short, long, c.seg_of-seg.ensures.len, payload_long a.packet.now.payload.now a.head.now a.read.fields);
       room = subst (λ n. missing (chain_of store slot.0) kept.lo n ≤ store.free) (sym long) c.in_default-refusal.ensures.free;
+      whole = subst (λ s. IsTrue c.look-found.result.repeats → IsWhole (chain_of s slot.0) kept.lo (length c.own_octets-own.result.now)) (sym c.look-found.ensures.same) c.look-found.ensures.whole;
       quota = subst (λ n. IsAtMost c.args.self.now.limits.quota (length (chain_of store slot.0) + missing (chain_of store slot.0) kept.lo n)) (sym long) c.in_default-refusal.ensures.within;
     }
 
@@ -172,12 +176,12 @@ returns-in-Some-refusal-clause-decides c =
     let f = of_stream v.segments w stream in
     let warm = subst (WarmFor c.in-Some.warm.now) (sym live.segments_are) (last.settled (segments n calls) stood) in
     let total = held_is calls _ _ _ _ st.holds (st.opened.chains ∙ sym st.opened.flows) h.below h.slots_apart in
-    let store = c.aim-ends.new.store in
-    let roomy : v.room ≡ store.free = omega (arith, total, c.cells_are_counted.ensures.total, st.opened.store, ap (λ (s : Store). s.free) c.aim-ends.ensures.same) in
+    let store = c.look-found.new.store in
+    let roomy : v.room ≡ store.free = omega (arith, total, c.cells_are_counted.ensures.total, st.opened.store, ap (λ (s : Store). s.free) c.look-found.ensures.same) in
     let keeps : Keeps (chain_of store here.slot.0) v.segments =
-    subst (λ s. Keeps (chain_of s here.slot.0) v.segments) (sym c.aim-ends.ensures.same) (subst (Keeps (chain_of c.args.self.now.store here.slot.0)) (sym live.segments_are) l.at.octets) in
+    subst (λ s. Keeps (chain_of s here.slot.0) v.segments) (sym c.look-found.ensures.same) (subst (Keeps (chain_of c.args.self.now.store here.slot.0)) (sym live.segments_are) l.at.octets) in
     let count : length (chain_of store here.slot.0) ≡ held_of v.segments =
-    ap (λ s. length (chain_of s here.slot.0)) c.aim-ends.ensures.same ∙ (l.at.count ∙ ap held_of (sym live.segments_are)) in
+    ap (λ s. length (chain_of s here.slot.0)) c.look-found.ensures.same ∙ (l.at.count ∙ ap held_of (sym live.segments_are)) in
     let bound : c.args.self.now.limits.quota ≡ settings.quota = λ k. (st.opened.limits k).quota in
     let is_live' = ap is_some live.era_is in
     let octets = is.octets in
@@ -221,12 +225,12 @@ returns-clause-decides c =
     let f = of_stream v.segments w stream in
     let warm = subst (WarmFor c.in-Some.warm.now) (sym live.segments_are) (last.settled (segments n calls) stood) in
     let total = held_is calls _ _ _ _ st.holds (st.opened.chains ∙ sym st.opened.flows) h.below h.slots_apart in
-    let store = c.aim-ends.new.store in
-    let roomy : v.room ≡ store.free = omega (arith, total, c.cells_are_counted.ensures.total, st.opened.store, ap (λ (s : Store). s.free) c.aim-ends.ensures.same) in
+    let store = c.look-found.new.store in
+    let roomy : v.room ≡ store.free = omega (arith, total, c.cells_are_counted.ensures.total, st.opened.store, ap (λ (s : Store). s.free) c.look-found.ensures.same) in
     let keeps : Keeps (chain_of store here.slot.0) v.segments =
-    subst (λ s. Keeps (chain_of s here.slot.0) v.segments) (sym c.aim-ends.ensures.same) (subst (Keeps (chain_of c.args.self.now.store here.slot.0)) (sym live.segments_are) l.at.octets) in
+    subst (λ s. Keeps (chain_of s here.slot.0) v.segments) (sym c.look-found.ensures.same) (subst (Keeps (chain_of c.args.self.now.store here.slot.0)) (sym live.segments_are) l.at.octets) in
     let count : length (chain_of store here.slot.0) ≡ held_of v.segments =
-    ap (λ s. length (chain_of s here.slot.0)) c.aim-ends.ensures.same ∙ (l.at.count ∙ ap held_of (sym live.segments_are)) in
+    ap (λ s. length (chain_of s here.slot.0)) c.look-found.ensures.same ∙ (l.at.count ∙ ap held_of (sym live.segments_are)) in
     let bound : c.args.self.now.limits.quota ≡ settings.quota = λ k. (st.opened.limits k).quota in
     let is_live' = ap is_some live.era_is in
     let octets = is.octets in

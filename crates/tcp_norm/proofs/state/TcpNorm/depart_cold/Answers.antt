@@ -25,19 +25,19 @@ returns-in-None c settings calls d octets long st sends =
     record {
       is_step = subst (IsStep v (segment_in d)) (sym c.outside-in-None.ensures)
           (subst (λ (w : Written). IsStep v w (record { era = None; begun = None; ended = None; full = true })) (sym sends.segment_is)
-          (step_full v c.args.seg.now octets none (sym c.if-rst.ensures) (sym (c.in-None.ensures.answer settings calls d st))));
-      stands = λ o does. c.in-None.ensures.none settings calls d o st (outside_unheard d (segment_in d) o true (subst (λ x. Does d (segment_in d) x o) c.outside-in-None.ensures does));
+          (step_full v c.args.seg.now octets none (sym c.if-rst.ensures) (c.in-None.ensures.none settings calls d st)));
+      stands = λ o does. (c.arrive-in-None.ensures settings calls d o st (outside_unheard d (segment_in d) o true (subst (λ x. Does d (segment_in d) x o) c.outside-in-None.ensures does))).stands;
     }
 
 pub returns-in-Some : goal.returns-in-Some
 returns-in-Some c settings calls d octets long st sends =
     let v = view_of settings calls d in
     let w = segment_in d in
-    let p = c.in-Some.place in
+    let p = c.admit.result in
     let none = view_cold settings calls _ _ _ c.args.hashed.now.key.0 d st.holds c.requires.absent sends.key_is in
     record {
       is_step = subst (IsStep v w) (sym c.begun.ensures)
-          (subst (λ (w : Written). IsStep v w (began p)) (sym sends.segment_is) (step_begun v c.args.seg.now octets p none (sym c.if-rst.ensures) (sym (c.in-Some.ensures.answer settings calls d st))));
-      stands = λ o does. c.in-Some.ensures.some settings calls d w o st sends.key_is
+          (subst (λ (w : Written). IsStep v w (began p)) (sym sends.segment_is) (step_begun v c.args.seg.now octets p none (sym c.if-rst.ensures) (sym (c.admit.ensures.answer settings calls d st))));
+      stands = λ o does. c.admit.ensures.stands settings calls d w o st sends.key_is
           (subst (λ (x : Written). era.StandsFor c.era_of.result (x ∷ [])) (sym sends.segment_is) (c.era_of.ensures.stands octets long)) (none_kept w sends.side) (subst (λ x. Does d w x o) c.begun.ensures does);
     }

@@ -1,19 +1,29 @@
-use Rattle.std.proofs.Common.{◌∙◌, true, false, [], ◌∷◌, None, sym, ap, subst, refl}
+use Rattle.std.proofs.Common.{◌≡◌, ◌∙◌, true, [], ◌∷◌, None, sym, ap, subst, refl}
 use Rattle.rule_book.specs.declared.rule.Rule.TheVariants as rules
-use Rattle.era_state.specs.Read.{came}
+use Rattle.std.proofs.lemmas.Bool.{false≢true}
+use Rattle.wire_base.specs.Segments.{Written}
+use Rattle.tcp_codec.specs.declared.header.Tcp.{Tcp}
 use Rattle.tcp_norm.specs.Calls.{segment_in}
 use Rattle.tcp_norm.specs.Views.{view_of}
 use Rattle.tcp_norm.specs.Colds.{IsUnheard}
-use Rattle.tcp_norm.specs.Emits.{packet_by, probe_packet}
-use Rattle.tcp_norm.specs.Inwards.{bare_read, passed}
+use Rattle.tcp_norm.specs.Emits.{flags_cleared, probe_packet}
+use Rattle.tcp_norm.specs.Inwards.{bare_read}
 use Rattle.tcp_norm.specs.Outcomes.{outcome_at}
-use Rattle.tcp_norm.specs.Steps.{IsStep, Does, began}
-use Rattle.tcp_norm.specs.declared.step.Step.{Step}
-use Rattle.tcp_norm.proofs.Connections.{view_cold, cold_same, asked_same, call_same, cold_probe_same, cold_refused, cold_full, cold_passes, no_call_no_begin, full_is, full_not, step_called, none_came}
-use Rattle.tcp_norm.proofs.BareSegments.{comes_bare, bare_anew, beside_are}
-use Rattle.tcp_norm.proofs.InboundSegments.{in_dropped, in_unheard, in_outcome, in_does, keyed, asks, step_asked, packets_asked, packets_begun, side_is, says}
-use Rattle.tcp_norm.proofs.SynsAndResets.{bare_writes, called_marked, cold_probes, begun_probes, cold_stream, bare_carried, rewritten_in}
+use Rattle.tcp_norm.proofs.Connections.{sent_call, view_cold, cold_same, asked_same, call_same, cold_probe_same, cold_refused, cold_passes, no_call_no_begin}
+use Rattle.tcp_norm.proofs.BareSegments.{comes_bare, beside_are}
+use Rattle.tcp_norm.proofs.InboundSegments.{in_dropped, in_unheard, in_outcome, keyed, asks, step_asked, packets_asked, side_is, says}
+use Rattle.tcp_norm.proofs.SynsAndResets.{cold_probes, cold_stream}
 use Rattle.tcp_norm.proofs.state.TcpNorm.judge_cold.Goals as goal
+
+pub judge_call-requires-clause-call : goal.judge_call-requires-clause-call
+judge_call-requires-clause-call c = sym c.if-are_of_call.ensures
+
+pub unreachable-requires : goal.unreachable-requires
+unreachable-requires c =
+    let a = c.args.arrival.now in
+    let flags : c.bare_seg-seg.result.flags.0 ≡ flags_cleared a.head.now.flags.0 =
+    ap (λ (w : Written). w.flags) c.bare_seg-seg.ensures.read ∙ ap flags_cleared (sym (ap (λ (h : Tcp). h.flags.0) a.read.fields)) in
+    absurd (false≢true (c.if-are_of_call.ensures ∙ sent_call a.head.now.flags.0 c.bare_seg-seg.result.flags.0 flags a.read.legal (sym c.in-Begin.ensures.begins)))
 
 pub returns-in-Refuse-clause-judges : goal.returns-in-Refuse-clause-judges
 returns-in-Refuse-clause-judges c = says c.args.arrival.now c.args.self.now _ _ _ _ refl (λ settings calls d st is.
@@ -26,21 +36,6 @@ returns-in-Refuse-clause-judges c = says c.args.arrival.now c.args.self.now _ _ 
     record {
       stands = (c.arrive.ensures settings calls d (outcome_at settings v d) st (in_unheard settings v d rules.TCold drops)).stands;
       rules = record { outcome_is = in_dropped settings v d rules.TCold None [] drops none refl; carried = c.requires.keyed.side };
-    })
-
-pub returns-in-None-clause-judges : goal.returns-in-None-clause-judges
-returns-in-None-clause-judges c = says c.args.arrival.now c.args.self.now _ _ _ _ refl (λ settings calls d st is.
-    let a = c.args.arrival.now in
-    let v = view_of settings calls d in
-    let key_is = keyed a.packet.now a.link.now d _ c.requires.keyed.side is c.requires.keyed.key_is in
-    let comes = comes_bare d _ c.bare_seg-seg.result (side_is a.packet.now a.link.now d c.requires.keyed.side is) key_is (c.bare_seg-seg.ensures.read ∙ ap bare_read (sym is.octets)) in
-    let none = view_cold settings calls _ _ _ _ d st.holds c.requires.absent key_is in
-    let call = sym (call_same d c.args.hashed.now.key.0 c.bare_seg-seg.result comes) ∙ sym c.in-Begin.ensures.begins in
-    let drops = cold_full settings v d comes.side none (sym (cold_same d c.args.hashed.now.key.0 c.bare_seg-seg.result comes) ∙ sym c.in-Begin.ensures.refuses)
-    (full_is v (segment_in d) none call (sym (c.in-None.ensures.answer settings calls d st))) in
-    record {
-      stands = c.in-None.ensures.none settings calls d (outcome_at settings v d) st (in_unheard settings v d rules.TFull drops);
-      rules = record { outcome_is = in_dropped settings v d rules.TFull None [] drops none refl; carried = c.requires.keyed.side };
     })
 
 pub returns-in-Probe-clause-judges : goal.returns-in-Probe-clause-judges
@@ -64,35 +59,4 @@ returns-in-Probe-clause-judges c = says c.args.arrival.now c.args.self.now _ _ _
     record {
       stands = (c.arrive-in-Probe.ensures settings calls d (outcome_at settings v d) st (subst IsUnheard (sym is_it) (record { era = λ written. refl; begun = refl; ended = refl }))).stands;
       rules = record { outcome_is = is_it; carried = c.requires.keyed.side };
-    })
-
-pub returns-in-Some-clause-judges : goal.returns-in-Some-clause-judges
-returns-in-Some-clause-judges c = says c.args.arrival.now c.args.self.now _ _ _ _ refl (λ settings calls d st is.
-    let a = c.args.arrival.now in
-    let v = view_of settings calls d in
-    let w = segment_in d in
-    let seg = c.bare_seg-seg.result in
-    let side = side_is a.packet.now a.link.now d c.requires.keyed.side is in
-    let key_is = keyed a.packet.now a.link.now d _ c.requires.keyed.side is c.requires.keyed.key_is in
-    let comes = comes_bare d _ seg side key_is (c.bare_seg-seg.ensures.read ∙ ap bare_read (sym is.octets)) in
-    let none = view_cold settings calls _ _ _ _ d st.holds c.requires.absent key_is in
-    let p = c.in-Some.place in
-    let found = sym (c.in-Some.ensures.answer settings calls d st) in
-    let call = sym (call_same d c.args.hashed.now.key.0 seg comes) ∙ sym c.in-Begin.ensures.begins in
-    let asked = sym (asked_same d c.args.hashed.now.key.0 seg comes) ∙ sym c.in-Begin.ensures.asks in
-    let passes = cold_passes settings v d comes.side none (sym (cold_same d c.args.hashed.now.key.0 seg comes) ∙ sym c.in-Begin.ensures.refuses) (full_not v w p found) in
-    let marked = called_marked v w side asked in
-    let stream = cold_stream v w none in
-    let probes = begun_probes v w none asked in
-    let named = c.rows_beside-rows-in-Some.result.items in
-    let mends = beside_are settings v d a.packet.now.payload.now a.head.now c.options_change-changed-in-Some.result false named a.read.fields is.octets side stream probes
-    c.options_change-changed-in-Some.ensures.changed c.rows_beside-rows-in-Some.ensures.rows in
-    let step = subst (IsStep v w) (sym c.begun.ensures) (step_called v w p comes.side none call found) in
-    let is_it = in_outcome settings v d c.begun.result d.fixes named _ side refl passes mends step (ap (λ (s : Step). s.full) c.begun.ensures) (packets_begun settings v d named none asked) in
-    let writes = bare_writes c.segments_are_read_back.ensures settings v d a.packet.now a.link.now a.head.now false named seg side is
-    c.are_bits.ensures a.read _ refl c.options_change-changed-in-Some.ensures.words c.options_change-changed-in-Some.ensures.size marked stream probes mends c.bare_seg-seg.ensures.read in
-    let does = subst (Does d (came seg) (began p)) (sym is_it) (subst (λ s. Does d (came seg) (began p) (passed s d.fixes named (packet_by settings v.segments d d.fixes named ∷ []))) (sym c.begun.ensures) (in_does d (came seg) (began p) d.fixes named _ writes)) in
-    record {
-      stands = c.in-Some.ensures.some settings calls d (came seg) (outcome_at settings v d) st key_is c.in-Begin.ensures.fields (none_came seg) does;
-      rules = record { outcome_is = is_it; carried = rewritten_in v.segments d a _ _ side (bare_carried v.segments d a.packet.now a.link.now a.head.now is a.read (bare_anew v.segments d marked)) };
     })

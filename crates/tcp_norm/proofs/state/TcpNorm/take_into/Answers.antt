@@ -15,7 +15,8 @@ use Rattle.tcp_norm.proofs.InboundSegments.{not_empty}
 use Rattle.tcp_norm.proofs.OutboundSegments.{is_read}
 use Rattle.tcp_norm.proofs.state.TcpNorm.take_into.Goals as goal
 
--- the outcome of a segment that continues the era of this number and is sent alone, of which no rule of its connection holds
+-- the outcome of a segment that continues the era of this number and is sent alone, of which no
+-- rule of its connection holds
 abbrev within : PlainSettings → List Written → Datagram → (number : ℕ) → Outcome
 within settings ws d number = passed (continued_in number) d.fixes [] (packet_by settings ws d d.fixes [] ∷ [])
 
