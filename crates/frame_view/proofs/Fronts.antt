@@ -2,7 +2,7 @@
 use Rattle.std.proofs.Common.{◌≡◌, ℕ, zero, suc, ◌+◌, ◌*◌, ◌/◌, ◌%◌, ◌<◌, ◌≤◌, List, [], ◌∷◌, length, take, drop, refl, ap, ◌∙◌, arith, slice_index}
 use Rattle.std.proofs.lemmas.List.{drop_more}
 
--- so many elements from an offset on
+-- this number of elements from an offset on
 abbrev pub from : (at count : ℕ) → List ℕ → List ℕ
 from at zero p = []
 from at (suc count) p = slice_index p at ∷ from (at + 1) count p

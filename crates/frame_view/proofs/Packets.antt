@@ -106,7 +106,7 @@ same_udp_header a b ma mb ha hb same =
     ∷ first_octet a b 6 ha hb checksum i ∷ second_octet a b 6 ha hb checksum i
     ∷ []
 
--- the whole header of a segment stands in it
+-- the whole header of a segment is in it
 pub record HasFront (least header : ℕ) (m : List ℕ) : Type 0 where
   pub standing : least ≤ length m
   pub low : least ≤ header
@@ -123,12 +123,12 @@ segment-front m e =
       low = ltb-false (tcp.header_length m) 20 (or_false _ _ (not-true _ parts.1)).0;
     }
 
--- a segment is this message, and its header stands in it
+-- a segment is this message, and its header is in it
 abbrev pub IsSegment : Option (List ℕ) → List ℕ → Type 0
 IsSegment None m = Unit {0}
 IsSegment (Some x) m = (x ≡ m) × HasSegmentHeader x × AreOctets x
 
--- a datagram is this message, and its header stands in it
+-- a datagram is this message, and its header is in it
 abbrev pub IsDatagram : Option (List ℕ) → List ℕ → Type 0
 IsDatagram None m = Unit {0}
 IsDatagram (Some x) m = (x ≡ m) × (8 ≤ length x) × AreOctets x
@@ -256,7 +256,7 @@ whole-header : (p : List ℕ) → 20 ≤ ip.header_length p → take (ip.header_
 whole-header p low =
     sym (take-append-drop 20 (take (ip.header_length p) p)) ∙ ap (λ t. t ++ ip.options p) (take-take 20 (ip.header_length p) p low)
 
--- the message of a packet ends behind its header
+-- the message of a packet ends after its header
 end-behind : (p : List ℕ) → IsReadable p → ip.header_length p ≤ message_end p
 end-behind p e = by_cases (cases_Bool (ip.has_bad_total_length p))
   where

@@ -16,11 +16,6 @@ pub differing-more : (from to : List ℕ) (i : ℕ) → i < length from → i < 
 differing-more from to i hf ht unlike =
     rw (drop_more from i 0 hf) (rw (drop_more to i 0 ht) (differing-unlike _ _ (drop (i + 1) from) (drop (i + 1) to) (ne_eqb _ _ unlike)))
 
--- an octet that does not differ ends the run
-pub differing-same : (from to : List ℕ) (i : ℕ) → i < length from → i < length to → get_or from i 0 ≡ get_or to i 0 → differing (drop i from) (drop i to) ≡ 0
-differing-same from to i hf ht alike =
-    rw (drop_more from i 0 hf) (rw (drop_more to i 0 ht) (differing-alike _ _ (drop (i + 1) from) (drop (i + 1) to) (eq-eqb _ _ alike)))
-
 differing-nil : (xs : List ℕ) → differing xs [] ≡ 0
 differing-nil [] = refl
 differing-nil (x ∷ xs) = refl
@@ -42,7 +37,7 @@ runs-skip at (x ∷ xs) (y ∷ ys) = by_cases (cases_Bool (x == y)) (runs-skip (
     by_cases (inl e) rest = rw e (rw (add-zero at) (rw e refl))
     by_cases (inr e) rest = rw e (rest ∙ ap (λ n. runs false n (drop (differing xs ys) xs) (drop (differing xs ys) ys)) (omega arith))
 
--- where the fronts are the same, the runs are those behind them
+-- where the fronts are the same, the runs are those after them
 pub runs-same : (at : ℕ) (from to : List ℕ) (i : ℕ) → i < length from → i < length to → differing (drop i from) (drop i to) ≡ 0 →
     runs false (at + i) (drop i from) (drop i to) ≡ runs false (at + (i + 1)) (drop (i + 1) from) (drop (i + 1) to)
 runs-same at from to i hf ht none = by_cases (cases_Bool (get_or from i 0 == get_or to i 0))
@@ -52,7 +47,7 @@ runs-same at from to i hf ht none = by_cases (cases_Bool (get_or from i 0 == get
         rw (drop_more from i 0 hf) (rw (drop_more to i 0 ht) (rw e (ap (λ n. runs false n (drop (i + 1) from) (drop (i + 1) to)) (omega arith))))
     by_cases (inr e) = absurd (omega (arith, differing-more from to i hf ht (eqb-false _ _ e)))
 
--- where they differ, a run begins there, and the others are behind it
+-- where they differ, a run begins there, and the others are after it
 pub runs-run : (at : ℕ) (from to : List ℕ) → (differing from to ≡ 0 → ⊥) →
     runs false at from to
     ≡ record { at = at; from = take (differing from to) from; to = take (differing from to) to }

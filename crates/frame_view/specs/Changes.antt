@@ -1,5 +1,6 @@
--- What differs between a record and a frame that was written for it: the fields in which they say something else, in order, with what both say. A
--- frame that norm made itself is not compared: it has one change of its own.
+-- What differs between a record and a frame that was written for it: the fields in which they say
+-- something else, in order, with what both say. A frame that norm made itself is not compared: it
+-- has its own change.
 use Rattle.std.specs.Prelude.{ℕ, suc, ◌+◌, ◌-◌, ◌^◌, ◌%◌, ◌==◌, nat_le, Bool, true, false, List, [], ◌∷◌, map, length, take, drop, Option, if◌then◌else◌}
 use Rattle.std.specs.List.{flat_map}
 use Rattle.std.specs.Str.{bytes_eq}
@@ -30,15 +31,17 @@ pub record PlainReplaced : Type 0 where
   pub from : List ℕ
   pub to : List ℕ
 
--- what differs in a payload: the octets cut off at its front and at its end, those behind its end, and those replaced
+-- what differs in a payload: the octets cut off at its front and at its end, those after its end,
+-- and those replaced
 pub record PlainPayload : Type 0 where
   pub front : List ℕ
   pub end : List ℕ
   pub longer : List ℕ
   pub replaced : List PlainReplaced
 
--- what differs in one field: the number of the frame, and both values; the payload has a form of its own; or what a frame is that norm made itself:
--- its number and kind, what its headers say, and the number of octets of its payload
+-- What differs in one field: the number of the frame, and both values; the payload has its own
+-- form. Or what a frame is that norm made itself: its number and kind, what its headers say, and
+-- the number of octets of its payload.
 pub data PlainChange : Type 0 where
   in_field : (frame : ℕ) → Field → (from to : PlainSaid) → PlainChange
   in_payload : (frame : ℕ) → PlainPayload → PlainChange
@@ -73,7 +76,8 @@ differing [] to = 0
 differing (x ∷ from) [] = 0
 differing (x ∷ from) (y ∷ to) = if x == y then 0 else suc (differing from to)
 
--- the runs of octets that differ; `at` is the offset of both fronts, and `inside` says that the octets before them differ
+-- the runs of octets that differ; `at` is the offset of both fronts, and `inside` says that the
+-- octets before them differ
 abbrev pub runs : (inside : Bool) → (at : ℕ) → (from to : List ℕ) → List PlainReplaced
 runs inside at [] to = []
 runs inside at (x ∷ from) [] = []
@@ -92,7 +96,8 @@ runs inside at (x ∷ from) (y ∷ to) =
 abbrev pub within : (limit : ℕ) → ℕ → ℕ
 within limit n = if nat_le n limit then n else 0
 
--- how far the sequence number of a frame is ahead of the record's, modulo 2^32 (RFC 9293 section 3.4), where both have one and it is at most a limit; else 0
+-- how far the sequence number of a frame is ahead of the record's, modulo 2^32 (RFC 9293 section
+-- 3.4), where both have one and it is at most a limit; else 0
 abbrev pub ahead : (limit : ℕ) → (from to : List ℕ) → ℕ
 ahead limit [] to = 0
 ahead limit (first ∷ more) [] = 0
@@ -102,7 +107,7 @@ ahead limit (first ∷ more) (second ∷ others) = within limit ((second + 2 ^ 3
 abbrev pub cut_at_front : Link → (octets frame : List ℕ) → ℕ
 cut_at_front link octets frame = ahead (length (payload_of link octets)) (reading link Sequence octets) (reading link Sequence frame)
 
--- what differs in a payload of which so many octets are cut off at the front
+-- what differs in a payload that lacks this number of octets at the front
 abbrev pub payload_change : (front : ℕ) → (from to : List ℕ) → PlainPayload
 payload_change front from to =
     record {
@@ -124,10 +129,12 @@ abbrev pub changes_in : Link → (number : ℕ) → (octets frame : List ℕ) �
 changes_in link number octets frame field =
     if bytes_eq (reading link field octets) (reading link field frame) then [] else change_in link number octets frame field ∷ []
 
--- what differs between a record and the frame of this number: the fields in which they say something else, in order
+-- what differs between a record and the frame of this number: the fields in which they say
+-- something else, in order
 abbrev pub changes_of : Link → (number : ℕ) → (octets frame : List ℕ) → List PlainChange
 changes_of link number octets frame = flat_map (changes_in link number octets frame) fields
 
--- the change of a frame of this number and kind that norm made itself: what its headers say, and how many octets its payload has
+-- the change of a frame of this number and kind that norm made itself: what its headers say, and
+-- how many octets its payload has
 abbrev pub made_of : Link → (number : ℕ) → (frame : List ℕ) → Made → PlainChange
 made_of link number frame kind = in_made number kind (flow_in link frame) (length_in link frame)

@@ -1,4 +1,5 @@
--- What the headers of a packet say in short: addresses, protocol, fragment fields, ports, and the marks of a TCP segment or an ICMP message.
+-- What the headers of a packet say in short: addresses, protocol, fragment fields, ports, and the
+-- marks of a TCP segment or an ICMP message.
 use Rattle.std.specs.Prelude.{ℕ, ◌||◌, nat_lt, List, length, Option, Some, None, option_map, if◌then◌else◌}
 use Rattle.std.specs.Option.{is_some}
 use Rattle.wire_base.specs.Frames.{ethertype}
@@ -49,7 +50,8 @@ flow_in link f = option_map flow_of (packet_of link f)
 abbrev pub length_in : Link → (frame : List ℕ) → ℕ
 length_in link f = length (payload_of link f)
 
--- the EtherType of a frame of which no IPv4 header can be read, where its link header of 14 octets is there (RFC 894)
+-- the EtherType of a frame without a readable IPv4 header, where its link header of 14 octets is
+-- present (RFC 894)
 abbrev pub ethertype_in : Link → (frame : List ℕ) → Option ℕ
 ethertype_in Ethernet f = if nat_lt (length f) 14 || is_some (packet_of Ethernet f) then None else Some (ethertype f)
 ethertype_in Raw f = None

@@ -1,4 +1,5 @@
--- The parts of a frame: the packet behind its link header, and the segment or datagram in it, each where its whole header can be read (this project's profile).
+-- The parts of a frame: the packet after its link header, and the segment or datagram in it, each
+-- where its whole header can be read (this project's profile).
 use Rattle.std.specs.Prelude.{◌≡◌, ℕ, ◌==◌, ◌&&◌, not, Bool, true, false, List, length, take, drop, Option, Some, None, if◌then◌else◌}
 use Rattle.wire_base.specs.Frames.{kind_of, packet_in}
 use Rattle.wire_base.specs.Icmp as icmp
@@ -16,7 +17,8 @@ is_ip Arp = false
 is_ip Short = false
 is_ip Other = false
 
--- an IPv4 header can be read: 20 octets, version 4, and a header length from 20 octets to those of the packet
+-- an IPv4 header can be read: 20 octets, version 4, and a header length from 20 octets to those of
+-- the packet
 abbrev pub has_ip_header : (packet : List ℕ) → Bool
 has_ip_header p = not (ip.is_short p) && not (ip.has_other_version p) && not (ip.has_bad_header_length p)
 
@@ -28,11 +30,12 @@ IsReadable p = has_ip_header p ≡ true
 abbrev pub packet_of : Link → (frame : List ℕ) → Option (List ℕ)
 packet_of link f = if is_ip (kind_of link f) && has_ip_header (packet_in link f) then Some (packet_in link f) else None
 
--- where the message of a packet ends: at the total length where the packet has as many octets and that is not inside of the header, else at its end
+-- where the message of a packet ends: at the total length where the packet has as many octets and
+-- that is not inside of the header, else at its end
 abbrev pub message_end : (packet : List ℕ) → ℕ
 message_end p = if ip.has_bad_total_length p then length p else ip.total_length p
 
--- the octets from behind the header to there
+-- the octets from after the header to there
 abbrev pub message_in : (packet : List ℕ) → List ℕ
 message_in p = drop (ip.header_length p) (take (message_end p) p)
 
@@ -69,7 +72,8 @@ first_of_two (Some first) second = Some first
 abbrev pub ported_in : (packet : List ℕ) → Option (List ℕ)
 ported_in p = first_of_two (segment_in p) (datagram_in p)
 
--- the octets behind the header of a segment, or of a datagram (8 octets), or all of them where there is neither
+-- the octets after the header of a segment, or of a datagram (8 octets), or all of them where there
+-- is neither
 abbrev pub behind : (segment datagram : Option (List ℕ)) → (all : List ℕ) → List ℕ
 behind (Some m) datagram all = tcp.payload m
 behind None (Some m) all = drop 8 m
@@ -79,7 +83,7 @@ behind None None all = all
 abbrev pub payload_in : (packet : List ℕ) → List ℕ
 payload_in p = behind (segment_in p) (datagram_in p) (message_in p)
 
--- the octets behind the message of a packet
+-- the octets after the message of a packet
 abbrev pub trailer_in : (packet : List ℕ) → List ℕ
 trailer_in p = drop (message_end p) p
 
@@ -88,6 +92,6 @@ abbrev pub payload_or : (octets : List ℕ) → (packet : Option (List ℕ)) →
 payload_or octets None = octets
 payload_or octets (Some p) = payload_in p
 
--- the payload of a frame; all octets behind the link header where no IPv4 header can be read
+-- the payload of a frame; all octets after the link header where no IPv4 header can be read
 abbrev pub payload_of : Link → (frame : List ℕ) → List ℕ
 payload_of link f = payload_or (packet_in link f) (packet_of link f)

@@ -1,5 +1,5 @@
--- The fields of a frame, in order, and what a frame says in each: numbers, or octets, or nothing where it has no such field. Two frames differ in the fields
--- in which they say something else.
+-- The fields of a frame, in order, and what a frame says in each: numbers, or octets, or nothing
+-- where it has no such field. Two frames differ in the fields in which they say something else.
 use Rattle.std.specs.Prelude.{ℕ, ◌/◌, ◌%◌, Bool, true, false, List, [], ◌∷◌, Option, Some, None, slice_index, codes}
 use Rattle.wire_base.specs.Numbers.{u16_at}
 use Rattle.wire_base.specs.Frames.{link_octets}
@@ -51,7 +51,8 @@ field_name UdpLength = codes "udp_length"
 field_name Payload = codes "payload"
 field_name Trailer = codes "trailer"
 
--- the field has octets: the octets before the packet, options, the payload and the octets behind the packet; any other has one number
+-- the field has octets: the octets before the packet, options, the payload and the octets after the
+-- packet; any other has one number
 abbrev pub has_octets : Field → Bool
 has_octets LinkHeader = true
 has_octets IpOptions = true
@@ -69,7 +70,8 @@ octets value (Some part) = value part
 abbrev pub bit_of : (weight : ℕ) → (packet : List ℕ) → ℕ
 bit_of weight p = slice_index p 6 / weight % 2
 
--- what a segment says in a field of the TCP header (RFC 9293 section 3.1), and nothing in any other; lengths are in octets
+-- what a segment says in a field of the TCP header (RFC 9293 section 3.1), and nothing in any
+-- other; lengths are in octets
 abbrev pub segment_reading : Field → (segment : List ℕ) → List ℕ
 segment_reading SourcePort m = tcp.source_port m ∷ []
 segment_reading DestinationPort m = tcp.destination_port m ∷ []
@@ -97,7 +99,8 @@ abbrev pub message_reading : Field → (segment datagram : Option (List ℕ)) �
 message_reading field (Some m) datagram = segment_reading field m
 message_reading field None datagram = octets (datagram_reading field) datagram
 
--- what a packet whose header can be read says in a field, and nothing in the link header's; lengths and the fragment offset are in octets
+-- what a packet whose header can be read says in a field, and nothing in the link header's; lengths
+-- and the fragment offset are in octets
 abbrev pub packet_reading : Field → (packet : List ℕ) → List ℕ
 packet_reading LinkHeader p = []
 packet_reading Version p = ip.version p ∷ []
@@ -119,7 +122,8 @@ packet_reading Payload p = payload_in p
 packet_reading Trailer p = trailer_in p
 packet_reading field p = message_reading field (segment_in p) (datagram_in p)
 
--- what a frame says in a field; the payload is all octets behind the link header where no IPv4 header can be read
+-- what a frame says in a field; the payload is all octets after the link header where no IPv4
+-- header can be read
 abbrev pub reading : Link → Field → (frame : List ℕ) → List ℕ
 reading link LinkHeader f = link_octets link f
 reading link Payload f = payload_of link f

@@ -41,7 +41,7 @@ pub struct PayloadChange {
     pub front: Vec<u8>,
     /// The octets of the record that are cut off at the end.
     pub end: Vec<u8>,
-    /// The octets of the frame behind the end of the record's payload.
+    /// The octets of the frame after the end of the record's payload.
     pub longer: Vec<u8>,
     pub replaced: Vec<Replaced>,
 }
@@ -49,7 +49,7 @@ pub struct PayloadChange {
 /// The kinds of frames that norm makes itself, which are not compared with a record.
 #[derive(Clone, Copy, Debug, PartialEq, Eq)]
 pub enum Made {
-    /// A keep-alive, written instead of the record or behind a RST.
+    /// A keep-alive, written instead of the record or after a RST.
     Probe,
     /// A datagram that fragments were reassembled into, or a part of it.
     Datagram,
@@ -71,8 +71,8 @@ pub enum Change {
         frame: u32,
         payload: PayloadChange,
     },
-    /// Norm made the frame itself: what its headers say, None where no IPv4 header can be read, and
-    /// the number of octets behind the last header that can be read.
+    /// norm made the frame itself: what its headers say, None where no IPv4 header can be read, and
+    /// the number of octets after the last header that can be read.
     Made {
         frame: u32,
         kind: Made,
@@ -96,7 +96,7 @@ fn same(one: Reading<'_>, other: Reading<'_>) -> bool
     }
 }
 
-// Returns what a frame says in a field, in memory of its own.
+// Returns what a frame says in a field, in its own memory.
 fn owned(alloc: Global, field: Field, reading: Reading<'_>) -> Result<Said, NoMemory>
     requires { FitsField field reading }
     ensures { IfOk result (λ said. plain_said said ≡ spec.said field (plain_reading reading.entry)) }

@@ -42,9 +42,9 @@ pub enum Field {
     TcpOptions,
     /// In octets, header included.
     UdpLength,
-    /// The octets behind the last header that can be read.
+    /// The octets after the last header that can be read.
     Payload,
-    /// The octets behind the total length.
+    /// The octets after the total length.
     Trailer,
 }
 

@@ -30,7 +30,7 @@ pub struct Flow {
     pub tcp: Option<TcpMarks>,
     /// The marks of an ICMP message, where its header can be read.
     pub icmp: Option<IcmpMarks>,
-    /// The number of octets behind the last header that can be read.
+    /// The number of octets after the last header that can be read.
     pub length: u64,
 }
 
@@ -66,15 +66,14 @@ pub fn flow_of(link: Link, frame: &[u8]) -> Option<Flow>
     Some(flow_of_packet(packet))
 }
 
-/// Returns the number of octets of a frame's payload: those behind the last header that can be read.
+/// Returns the number of octets of a frame's payload: those after the last header that can be read.
 pub fn length_of(link: Link, frame: &[u8]) -> u64
     ensures { result ≡ length_in link frame.now }
 {
     payload_of(link, frame).len() as u64
 }
 
-/// Returns the EtherType of a frame of which no IPv4 header can be read, where its link header has
-/// one.
+/// Returns the EtherType of a frame without a readable IPv4 header, where its link header has one.
 pub fn ethertype_of(link: Link, frame: &[u8]) -> Option<u16>
     ensures { result ≡ ethertype_in link frame.now }
 {
@@ -84,7 +83,7 @@ pub fn ethertype_of(link: Link, frame: &[u8]) -> Option<u16>
     Some(u16_at(frame, 12))
 }
 
-// What the headers of a packet say, where its IPv4 header can be read.
+// Returns what the headers of a packet say, where its IPv4 header can be read.
 fn flow_of_packet(packet: &[u8]) -> Flow
     requires { IsReadable packet.now }
     ensures { result ≡ spec.flow_of packet.now }
@@ -103,7 +102,7 @@ fn flow_of_packet(packet: &[u8]) -> Flow
     }
 }
 
-// The ports of a packet.
+// Returns the ports of a packet.
 fn ports_in(packet: &[u8]) -> Option<Ports>
     requires { IsReadable packet.now }
     ensures { result ≡ option_map ports_of (parts.ported_in packet.now) }
@@ -115,7 +114,7 @@ fn ports_in(packet: &[u8]) -> Option<Ports>
     })
 }
 
-// The marks of a packet's TCP segment.
+// Returns the marks of a packet's TCP segment.
 fn marks_in(packet: &[u8]) -> Option<TcpMarks>
     requires { IsReadable packet.now }
     ensures { result ≡ option_map marks_of (parts.segment_in packet.now) }
@@ -129,7 +128,7 @@ fn marks_in(packet: &[u8]) -> Option<TcpMarks>
     })
 }
 
-// The marks of a packet's ICMP message.
+// Returns the marks of a packet's ICMP message.
 fn icmp_marks_in(packet: &[u8]) -> Option<IcmpMarks>
     requires { IsReadable packet.now }
     ensures { result ≡ option_map icmp_marks_of (parts.icmp_in packet.now) }

@@ -176,7 +176,7 @@ pub fn payload_in(packet: &[u8]) -> &[u8]
     }
 }
 
-/// Returns the octets behind the message of a packet.
+/// Returns the octets after the message of a packet.
 pub fn trailer_in(packet: &[u8]) -> &[u8]
     requires { IsReadable packet.now }
     ensures { result.now ≡ spec.trailer_in packet.now }
@@ -184,7 +184,7 @@ pub fn trailer_in(packet: &[u8]) -> &[u8]
     &packet[message_end(packet)..]
 }
 
-/// Returns the payload of a frame, or all octets behind the link header where no IPv4 header can be
+/// Returns the payload of a frame, or all octets after the link header where no IPv4 header can be
 /// read.
 pub fn payload_of(link: Link, frame: &[u8]) -> &[u8]
     ensures { result.now ≡ spec.payload_of link frame.now }

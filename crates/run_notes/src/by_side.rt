@@ -12,7 +12,7 @@ pub struct BySide {
 }
 
 impl BySide {
-    /// Counts so many more on this side.
+    /// Adds to the count of this side.
     pub(crate) fn add(&mut self, side: Option<Side>, more: u64) {
         match side {
             Some(Side::Inward) => self.inward = self.inward.saturating_add(more),

@@ -87,8 +87,8 @@ impl Fragments {
     }
 }
 
-// Returns the datagram of a fragment.
-fn datagram_of(flow: Flow) -> DatagramKey {
+/// Returns the datagram of a fragment.
+pub(crate) fn datagram_of(flow: Flow) -> DatagramKey {
     DatagramKey {
         src: flow.src,
         dst: flow.dst,
@@ -97,8 +97,8 @@ fn datagram_of(flow: Flow) -> DatagramKey {
     }
 }
 
-// Returns whether the line of a fragment says that its datagram is complete.
-fn is_completing(rules: &[Rule]) -> bool {
+/// Returns whether the line of a fragment says that its datagram is complete.
+pub(crate) fn is_completing(rules: &[Rule]) -> bool {
     match rules.first() {
         Some(rule) => rule.number() > Rule::FRoom.number() && *rule != Rule::FHeld,
         None => false,

@@ -1,12 +1,13 @@
-//! Kinds of lines that tell of a capture as a whole.
+//! Counts of lines by what they say of a capture as a whole.
 
-use crate::line::{is_multicast, marks_of, names, number_at, octet_at, plus_if};
-use crate::{BySide, Line};
+use crate::layers::{Wrapped, Wrapping};
+use crate::line::{is_multicast, marks_of, names, plus_if};
+use crate::{BySide, NotedLine};
 use frame_view::{Flow, TcpMarks};
 use rule_book::{Entry, Rule};
 use wire_base::Link;
 
-/// Records that a greater table would have judged otherwise, by the option that sets its size.
+/// Records that a larger table would have judged differently, by the option that sets its size.
 #[derive(Clone, Copy, Debug, Default, PartialEq, Eq)]
 pub struct Full {
     pub flows: u64,
@@ -16,15 +17,25 @@ pub struct Full {
     pub frag_cells: u64,
 }
 
+/// IPv4 packets that are dropped for what is between them and the Ethernet header.
+#[derive(Clone, Copy, Debug, Default, PartialEq, Eq)]
+pub struct Tagged {
+    /// After VLAN tags.
+    pub vlan: u64,
+    /// In PPPoE.
+    pub pppoe: u64,
+    /// After MPLS labels.
+    pub mpls: u64,
+}
+
 /// How many lines are of each kind.
 #[derive(Clone, Copy, Debug, Default, PartialEq, Eq)]
-pub(crate) struct Kinds {
+pub(crate) struct KindCounts {
     /// Segments with ACK and neither SYN nor RST.
     pub(crate) answering: BySide,
     /// Packets to one host that belong to no side.
     pub(crate) foreign: u64,
-    /// IPv4 packets behind a tag or a label.
-    pub(crate) tagged: u64,
+    pub(crate) tagged: Tagged,
     /// Segments and UDP datagrams in IPv6.
     pub(crate) ipv6: u64,
     pub(crate) tunnels: u64,
@@ -34,14 +45,14 @@ pub(crate) struct Kinds {
     pub(crate) cut: u64,
 }
 
-impl Kinds {
+impl KindCounts {
     /// Returns that nothing is counted.
-    pub(crate) fn new() -> Kinds {
-        Kinds::default()
+    pub(crate) fn new() -> KindCounts {
+        KindCounts::default()
     }
 
     /// Counts a line, of which the headers of its packet say this.
-    pub(crate) fn count(&mut self, line: Line<'_>, flow: Option<Flow>) {
+    pub(crate) fn count(&mut self, line: NotedLine<'_>, flow: Option<Flow>) {
         let answering = is_answering(line.entry, flow);
         self.answering.add_if(answering, line.entry.side);
         if !line.entry.rules.is_empty() {
@@ -50,21 +61,47 @@ impl Kinds {
     }
 
     // Counts the kinds that rules name.
-    fn count_rules(&mut self, line: Line<'_>, flow: Option<Flow>) {
+    fn count_rules(&mut self, line: NotedLine<'_>, flow: Option<Flow>) {
         let rules = line.entry.rules.as_slice();
         let sideless = names(rules, Rule::ISide);
         let to_host = is_foreign(flow);
         self.foreign = plus_if(sideless && to_host, self.foreign);
-        let typed = is_of_type(line);
-        let tagged = is_tagged(line.octets);
-        let ipv6 = is_ipv6(line.octets);
-        self.tagged = plus_if(typed && tagged, self.tagged);
-        self.ipv6 = plus_if(typed && ipv6, self.ipv6);
+        if is_of_type(line) {
+            self.count_frame(line.octets);
+        }
         let other = names(rules, Rule::PProto);
         let tunnelled = is_tunnelled(flow);
         self.tunnels = plus_if(other && tunnelled, self.tunnels);
         self.full.count(rules);
         self.cut = plus_if(names(rules, Rule::LSnap), self.cut);
+    }
+
+    // Counts an Ethernet frame whose type is not judged.
+    fn count_frame(&mut self, frame: &[u8]) {
+        let wrapped = Wrapped::of_frame(frame);
+        if wrapped.is_ipv4() {
+            self.tagged.count(wrapped.wrapping);
+        }
+        self.ipv6 = plus_if(wrapped.is_ipv6_to_host(frame), self.ipv6);
+    }
+}
+
+impl Tagged {
+    // Counts a packet after this.
+    fn count(&mut self, wrapping: Wrapping) {
+        match wrapping {
+            Wrapping::Nothing => {}
+            Wrapping::Vlan => self.vlan = self.vlan.saturating_add(1),
+            Wrapping::Pppoe => self.pppoe = self.pppoe.saturating_add(1),
+            Wrapping::Mpls => self.mpls = self.mpls.saturating_add(1),
+        }
+    }
+
+    /// Returns the number of packets.
+    pub(crate) fn all(self) -> u64 {
+        self.vlan
+            .saturating_add(self.pppoe)
+            .saturating_add(self.mpls)
     }
 }
 
@@ -128,29 +165,6 @@ fn has_side_or_fault(entry: &Entry) -> bool {
 }
 
 // Returns whether the type of an Ethernet frame is not judged.
-fn is_of_type(line: Line<'_>) -> bool {
+fn is_of_type(line: NotedLine<'_>) -> bool {
     names(line.entry.rules.as_slice(), Rule::LType) && line.link == Link::Ethernet
-}
-
-// Returns whether an Ethernet frame has an IPv4 packet behind a tag or a label.
-fn is_tagged(frame: &[u8]) -> bool {
-    match number_at(frame, 12) {
-        0x8100 | 0x88a8 => is_vlan(frame),
-        0x8864 => number_at(frame, 20) == 0x0021,
-        0x8847 => octet_at(frame, 16) % 2 == 1 && octet_at(frame, 18) / 16 == 4,
-        _ => false,
-    }
-}
-
-fn is_vlan(frame: &[u8]) -> bool {
-    let kind = number_at(frame, 16);
-    let inner = number_at(frame, 20);
-    kind == 0x0800 || kind == 0x8100 && inner == 0x0800
-}
-
-// Returns whether an Ethernet frame has a segment or a UDP datagram in IPv6, to one host.
-fn is_ipv6(frame: &[u8]) -> bool {
-    let kind = number_at(frame, 12);
-    let next = octet_at(frame, 20);
-    kind == 0x86dd && (next == 6 || next == 17) && frame.len() > 38 && octet_at(frame, 38) != 255
 }

@@ -5,9 +5,9 @@ use frame_view::{Flow, TcpMarks};
 use rule_book::{Entry, Rule, Verdict};
 use wire_base::Link;
 
-/// A line of the first engine, and the octets of its record behind this link.
+/// A line of the first engine, and the octets of its record on this link.
 #[derive(Clone, Copy)]
-pub struct Line<'a> {
+pub struct NotedLine<'a> {
     pub link: Link,
     pub octets: &'a [u8],
     pub entry: &'a Entry,

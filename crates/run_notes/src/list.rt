@@ -1,48 +1,87 @@
 //! The notes of a run.
 
-use crate::{BySide, Full, Notes};
+use crate::{BySide, EARLY_RULES, Full, Notes, RuleDrops, Tagged};
 use edge_io::NoMemory;
 use std::alloc::Global;
 
-/// A note on a capture, with its counts.
+/// A note on a capture, with its counts. `of` is the number of all records.
 #[derive(Clone, Copy, Debug, PartialEq, Eq)]
 pub enum Note {
-    /// The most octets that were acknowledged and passed over and that no record had by then, by side.
-    Lost { inward: u64, outward: u64 },
-    /// Gaps that were filled from the front behind their acknowledgment.
-    Order { gaps: u64 },
-    /// Eras that begin without SYN, and octets of segments that a probe replaces, both of four-tuples
-    /// without an era before.
-    Half { eras: u64, octets: u64 },
+    /// Octets that were passed over and acknowledged, and that no record has, by side.
+    Lost {
+        inward: u64,
+        outward: u64,
+    },
+    /// Gaps that were filled from the front after their acknowledgment, by side.
+    Order {
+        inward: u64,
+        outward: u64,
+    },
+    /// Eras that begin without SYN, and inbound segments with payload that a probe replaces, both
+    /// of four-tuples without an era before.
+    Half {
+        eras: u64,
+        segments: u64,
+    },
     /// Segments of one side, and none or few of the other.
-    One { records: BySide },
+    One {
+        records: BySide,
+    },
     /// Checksums that are left to the network card.
-    Card { records: BySide },
-    /// Checksums that are wrong otherwise.
-    Wrong { records: BySide },
+    Card {
+        records: BySide,
+    },
+    /// Checksums that are wrong for another reason.
+    Wrong {
+        records: BySide,
+    },
     /// Packets that equal one of the four records before them.
-    Twice { records: u64 },
+    Twice {
+        records: u64,
+    },
     /// Packets that belong to no side.
-    Foreign { records: u64 },
-    /// IPv4 packets behind a VLAN tag, in PPPoE or behind an MPLS label.
-    Tagged { records: u64 },
+    Foreign {
+        records: u64,
+    },
+    /// IPv4 packets after VLAN tags, in PPPoE or after MPLS labels.
+    Tagged {
+        records: Tagged,
+        of: u64,
+    },
     /// Segments and UDP datagrams in IPv6.
-    Ipv6 { records: u64 },
-    Tunnels { records: u64 },
+    Ipv6 {
+        records: u64,
+        of: u64,
+    },
+    Tunnels {
+        records: u64,
+        of: u64,
+    },
     /// Records by the option whose table was full.
-    Full { records: Full },
+    Full {
+        records: Full,
+    },
     /// Records that the capture has in part.
-    Cut { records: u64 },
+    Cut {
+        records: u64,
+    },
+    /// Records that were dropped before their payload was judged, by rule, most first.
+    Unjudged {
+        records: u64,
+        of: u64,
+        rules: [RuleDrops; EARLY_RULES],
+    },
 }
 
 impl Note {
-    /// Returns whether a reader may believe the wrong thing; of what is not judged a note only names
-    /// it.
+    /// Returns whether a reader may believe the wrong thing. A note on a kind of packet that is not
+    /// judged only names it, unless half of the records or more are of that kind.
     pub fn is_warning(self) -> bool {
-        !matches!(
-            self,
-            Note::Tagged { .. } | Note::Ipv6 { .. } | Note::Tunnels { .. }
-        )
+        match self {
+            Note::Tagged { records, of } => is_half(records.all(), of),
+            Note::Ipv6 { records, of } | Note::Tunnels { records, of } => is_half(records, of),
+            _ => true,
+        }
     }
 }
 
@@ -53,21 +92,23 @@ impl Notes {
         self.add_streams(&mut list)?;
         self.add_packets(&mut list)?;
         self.add_kinds(&mut list)?;
+        self.add_unjudged(&mut list)?;
         Ok(list)
     }
 
     // Adds the notes on streams.
     fn add_streams(&self, list: &mut Vec<Note>) -> Result<(), NoMemory> {
-        let (missing, loose) = (self.flows.missing, self.flows.loose);
-        let inward = lost_of(missing.inward, loose.inward, loose.neither);
-        let outward = lost_of(missing.outward, loose.outward, loose.neither);
-        let order = self.has_order();
-        let lost = has_lost(inward, outward, order);
+        let faults = self.streams.faults();
+        let (inward, outward) = (faults.missing.inward, faults.missing.outward);
+        let lost = inward > 0 || outward > 0;
         add_if(list, lost, Note::Lost { inward, outward })?;
-        let gaps = self.flows.gaps;
-        add_if(list, order, Note::Order { gaps })?;
-        let (eras, octets) = (self.tuples.middle, self.tuples.probed);
-        add_if(list, self.has_half(), Note::Half { eras, octets })?;
+        let (inward, outward) = (faults.filled.inward, faults.filled.outward);
+        // An attacker can make gaps of the inside's octets, and not of the outside's.
+        let late = inward >= 3;
+        add_if(list, late || outward >= 3, Note::Order { inward, outward })?;
+        let (eras, segments) = (self.tuples.middle, self.tuples.probed);
+        let half = self.has_half() && !lost && !late;
+        add_if(list, half, Note::Half { eras, segments })?;
         let records = self.kinds.answering;
         add_if(list, self.has_one(), Note::One { records })
     }
@@ -85,45 +126,48 @@ impl Notes {
         add_if(list, self.has_foreign(), Note::Foreign { records: foreign })
     }
 
-    // Adds the notes on what is not judged, on tables that were full, and on records that are cut.
+    // Adds the notes on kinds that are not judged, on tables that were full, and on records that
+    // are cut.
     fn add_kinds(&self, list: &mut Vec<Note>) -> Result<(), NoMemory> {
+        let of = self.records;
         let tagged = self.kinds.tagged;
-        add_if(list, tagged > 0, Note::Tagged { records: tagged })?;
+        let any = tagged.all() > 0;
+        add_if(
+            list,
+            any,
+            Note::Tagged {
+                records: tagged,
+                of,
+            },
+        )?;
         let ipv6 = self.kinds.ipv6;
-        add_if(list, ipv6 > 0, Note::Ipv6 { records: ipv6 })?;
-        let tunnels = self.kinds.tunnels;
-        add_if(list, tunnels > 0, Note::Tunnels { records: tunnels })?;
+        add_if(list, ipv6 > 0, Note::Ipv6 { records: ipv6, of })?;
+        let records = self.kinds.tunnels;
+        add_if(list, records > 0, Note::Tunnels { records, of })?;
         let records = self.full();
         add_if(list, records.is_any(), Note::Full { records })?;
         let cut = self.kinds.cut;
         add_if(list, cut > 0, Note::Cut { records: cut })
     }
 
-    // Returns whether records come behind their acknowledgment; an attacker may make one or two gaps.
-    fn has_order(&self) -> bool {
-        self.flows.gaps >= 3
+    // Adds the note on records that were dropped before their payload was judged: if at least half
+    // were, or if the capture has no record.
+    fn add_unjudged(&self, list: &mut Vec<Note>) -> Result<(), NoMemory> {
+        let (records, of) = (self.early.all(), self.records);
+        let rules = self.early.most_first();
+        let unjudged = is_half(records, of);
+        add_if(list, unjudged, Note::Unjudged { records, of, rules })
     }
 
-    // Returns whether the capture begins in mid-connection, and no other note says why.
+    // Returns whether the capture begins in mid-connection.
     fn has_half(&self) -> bool {
-        let share = is_share(self.tuples.middle, 1, 8, self.tuples.begun);
-        let probed = self.tuples.probed > 0;
-        let explained = self.is_explained();
-        (probed || share) && !explained
+        let tuples = &self.tuples;
+        let share = is_share(tuples.middle, 1, 8, tuples.begun);
+        let probed = is_share(tuples.probed, 4, 8, tuples.inbound);
+        share || probed
     }
 
-    // Returns whether another note says why connections have no beginning.
-    fn is_explained(&self) -> bool {
-        let order = self.has_order();
-        let card = self.has_card();
-        let wrong = self.has_wrong();
-        let one = self.has_one();
-        let full = self.full().is_any();
-        let foreign = self.has_foreign();
-        order || card || wrong || one || full || foreign
-    }
-
-    // Returns whether segments go one way alone.
+    // Returns whether segments go only one way.
     fn has_one(&self) -> bool {
         let answering = self.kinds.answering;
         let most = answering.inward.max(answering.outward);
@@ -136,12 +180,12 @@ impl Notes {
         self.has_side(self.sums.to_card, 2, 64)
     }
 
-    // Returns whether most checksums are wrong otherwise.
+    // Returns whether most checksums are wrong for another reason.
     fn has_wrong(&self) -> bool {
         self.has_side(self.sums.wrong, 4, 2)
     }
 
-    // Returns whether a side has so many, and one in `part` of its packets.
+    // Returns whether a count of a side reaches a least one, and one in `part` of its packets.
     fn has_side(&self, count: BySide, least: u64, part: u64) -> bool {
         let inward = is_share(count.inward, least, part, self.sums.carried.inward);
         let outward = is_share(count.outward, least, part, self.sums.carried.outward);
@@ -171,14 +215,9 @@ fn add_if(list: &mut Vec<Note>, test: bool, note: Note) -> Result<(), NoMemory> 
     Ok(())
 }
 
-// Returns the most octets of a side that no record had by then, less those that belong to no stream.
-fn lost_of(missing: u64, own: u64, neither: u64) -> u64 {
-    missing.saturating_sub(own).saturating_sub(neither)
-}
-
-// Returns whether octets are lost, in a capture whose records are in order.
-fn has_lost(inward: u64, outward: u64, order: bool) -> bool {
-    (inward > 0 || outward > 0) && !order
+// Returns whether a count is half of all or more.
+fn is_half(count: u64, all: u64) -> bool {
+    is_share(count, 0, 2, all)
 }
 
 // Returns whether a count reaches a least one, and one in `part` of all.

@@ -1,16 +1,18 @@
 //! All that is counted for the notes of a run.
 ghost use Rattle.frame_view.specs.Parts.{IsReadable};
 
-use crate::Line;
+use crate::NotedLine;
+use crate::early::EarlyDrops;
 use crate::fragments::{Fragments, NumberCount, Numbered, count_number, listed};
-use crate::kinds::Kinds;
-use crate::line::{names, plus_if};
-use crate::streams::Flows;
+use crate::hosts::{AddressCounts, Hosts};
+use crate::kinds::KindCounts;
+use crate::line::{is_drop, marks_of, names, plus_if};
+use crate::streams::{SegmentSeen, StreamTable};
 use crate::sums::Sums;
 use crate::tuples::Tuples;
 use crate::twins::Twins;
 use edge_io::NoMemory;
-use frame_view::{Flow, ethertype_of, flow_of, packet_of};
+use frame_view::{Flow, TcpMarks, ethertype_of, flow_of, packet_of};
 use indexmap::IndexMap;
 use rule_book::{Entry, Rule};
 use std::alloc::Global;
@@ -18,28 +20,35 @@ use std::alloc::Global;
 /// All that is counted for the notes of a run so far.
 #[derive(Drop)]
 pub struct Notes {
+    /// The number of lines, each of a record.
+    pub(crate) records: u64,
     pub(crate) sums: Sums,
-    pub(crate) kinds: Kinds,
+    pub(crate) kinds: KindCounts,
+    pub(crate) early: EarlyDrops,
     pub(crate) twins: Twins,
-    pub(crate) flows: Flows,
+    pub(crate) streams: StreamTable,
     pub(crate) tuples: Tuples,
-    pub(crate) fragments: Fragments,
+    fragments: Fragments,
+    addresses: AddressCounts,
     /// EtherTypes that are not judged.
-    pub(crate) types: Numbered,
+    types: Numbered,
     /// Protocols that are not judged.
-    pub(crate) protocols: Numbered,
+    protocols: Numbered,
 }
 
 impl Notes {
     /// Returns that nothing is counted.
     pub fn new(alloc: Global) -> Notes {
         Notes {
+            records: 0,
             sums: Sums::new(),
-            kinds: Kinds::new(),
+            kinds: KindCounts::new(),
+            early: EarlyDrops::new(),
             twins: Twins::new(alloc),
-            flows: Flows::new(alloc),
+            streams: StreamTable::new(alloc),
             tuples: Tuples::new(alloc),
             fragments: Fragments::new(alloc),
+            addresses: AddressCounts::new(alloc),
             types: IndexMap::new(alloc),
             protocols: IndexMap::new(alloc),
         }
@@ -47,7 +56,7 @@ impl Notes {
 
     /// Counts one more line of the first engine. Fails only if memory cannot be allocated; what is
     /// counted then is out of date.
-    pub fn take(&mut self, line: Line<'_>) -> Result<(), NoMemory> {
+    pub fn take(&mut self, line: NotedLine<'_>) -> Result<(), NoMemory> {
         let flow = flow_of(line.link, line.octets);
         self.take_entry(line, flow)?;
         let packet = packet_of(line.link, line.octets);
@@ -65,6 +74,11 @@ impl Notes {
         self.fragments.all
     }
 
+    /// Returns the addresses of each side that most records have.
+    pub fn hosts(&self, alloc: Global) -> Result<Hosts, NoMemory> {
+        self.addresses.most(alloc)
+    }
+
     /// Returns the EtherTypes that are not judged, in the order of first naming.
     pub fn types(&self, alloc: Global) -> Result<Vec<NumberCount>, NoMemory> {
         listed(alloc, &self.types)
@@ -76,11 +90,13 @@ impl Notes {
     }
 
     // Counts what a line says without its packet, of which the headers say this.
-    fn take_entry(&mut self, line: Line<'_>, flow: Option<Flow>) -> Result<(), NoMemory> {
+    fn take_entry(&mut self, line: NotedLine<'_>, flow: Option<Flow>) -> Result<(), NoMemory> {
         let entry = line.entry;
+        self.records = self.records.saturating_add(1);
         self.kinds.count(line, flow);
+        self.early.count(entry);
         self.tuples.begun = plus_if(entry.begun.is_some(), self.tuples.begun);
-        self.flows.end_all(entry.ended.as_slice())?;
+        self.streams.end_all(entry.ended.as_slice())?;
         count_number(&mut self.types, type_of(line))?;
         count_number(
             &mut self.protocols,
@@ -94,14 +110,45 @@ impl Notes {
     {
         self.sums.count(entry, flow, packet);
         self.twins.take(flow, packet)?;
-        self.tuples.take(entry, flow, &self.flows)?;
-        self.flows.take(entry, flow, packet)?;
+        self.addresses.take(entry.side, flow.src, flow.dst)?;
+        if let Some(marks) = marks_of(flow) {
+            self.tuples.take(entry, flow, marks, &self.streams)?;
+            self.take_segment(entry, flow, marks, packet)?;
+        }
         self.fragments.take(entry.rules.as_slice(), flow)
+    }
+
+    // Takes a segment to the streams of its era, or, if its line has none, to those of the last era
+    // of its four-tuple.
+    fn take_segment(
+        &mut self,
+        entry: &Entry,
+        flow: Flow,
+        marks: TcpMarks,
+        packet: &[u8],
+    ) -> Result<(), NoMemory>
+        requires { IsReadable packet.now }
+    {
+        if marks.flags.rst() {
+            return Ok(());
+        }
+        let found = match (entry.era, entry.side) {
+            (Some(era), Some(side)) => Some((era, side)),
+            (Some(_), None) => None,
+            (None, side) => self.tuples.last_era(side, flow),
+        };
+        let Some((era, side)) = found else {
+            return Ok(());
+        };
+        let covers_only = is_drop(entry.verdict) || entry.era.is_none();
+        let rules = entry.rules.as_slice();
+        let segment = SegmentSeen::of(rules, flow, marks, packet, covers_only);
+        self.streams.take(era, side, segment)
     }
 }
 
 // Returns the EtherType of a record that is dropped for it.
-fn type_of(line: Line<'_>) -> Option<u32> {
+fn type_of(line: NotedLine<'_>) -> Option<u32> {
     if !names(line.entry.rules.as_slice(), Rule::LType) {
         return None;
     }

@@ -1,15 +1,16 @@
-//! What is known of the two streams of an era.
+//! What is known of the streams of each era.
 ghost use Rattle.std.specs.Prelude.{◌<◌, ◌^◌};
 ghost use Rattle.frame_view.specs.Parts.{IsReadable};
 
 use crate::BySide;
-use crate::line::{is_drop, marks_of, names};
+use crate::coverage::{Coverage, Run};
+use crate::line::names;
 use edge_io::NoMemory;
-use frame_view::{Flow, TcpMarks};
+use frame_view::{Flow, TcpMarks, message_end};
 use indexmap::IndexMap;
-use rule_book::{Ended, Entry, Reason, Rule};
+use rule_book::{Ended, Reason, Rule};
 use std::alloc::Global;
-use wire_base::{Side, protocol, sequence_distance, sequence_plus, u16_at};
+use wire_base::{Side, sequence_distance, sequence_plus, u16_at};
 
 // 2^32, and the greatest distance of a segment from the greatest end that is followed, 2^30.
 const TURN: u64 = 1 << 32;
@@ -17,117 +18,124 @@ const TURN: u64 = 1 << 32;
 const FAR: u64 = 1 << 30;
 
 /// What is known of the stream of one side. Offsets count octets from `base`.
-#[derive(Clone, Copy, Debug, Default, PartialEq, Eq)]
-pub(crate) struct Half {
+#[derive(Drop)]
+struct SideStream {
     /// The sequence number of the first octet.
-    pub(crate) base: Option<u32>,
-    /// The greatest end of the side's records.
-    pub(crate) top: u64,
+    base: Option<u32>,
+    /// The greatest end of the side's segments that are not dropped.
+    top: u64,
     /// The greatest offset that the other side acknowledged.
-    pub(crate) acked: u64,
-    /// How many octets are in the capture, each copy counted.
-    pub(crate) octets: u64,
-    /// How many octets were missing, the most at one time.
-    pub(crate) worst: u64,
-    /// The newest gap that an acknowledgment left; none if both are equal.
-    pub(crate) front: u64,
-    pub(crate) end: u64,
-    /// How many gaps were filled behind their acknowledgment.
-    pub(crate) gaps: u64,
+    acked: u64,
+    covered: Coverage,
+    /// The newest gap that an acknowledgment left; empty if there is none.
+    gap: Run,
+    /// How many gaps were filled after their acknowledgment.
+    filled: u64,
 }
 
 /// What is known of an era.
-#[derive(Clone, Copy, Debug, Default, PartialEq, Eq)]
-pub(crate) struct Streams {
-    pub(crate) inward: Half,
-    pub(crate) outward: Half,
+#[derive(Drop)]
+struct EraStreams {
+    inward: SideStream,
+    outward: SideStream,
     /// The era was evicted.
-    pub(crate) evicted: bool,
+    evicted: bool,
 }
 
-/// A segment of an era.
+/// A segment without RST.
 #[derive(Clone, Copy, Debug, PartialEq, Eq)]
-pub(crate) struct Seen {
-    /// How many octets it takes of its stream, with the FIN.
+pub(crate) struct SegmentSeen {
+    /// How many octets it has of its stream, with the FIN.
     pub(crate) size: u64,
     /// The sequence number of the first of them.
     pub(crate) start: u32,
     pub(crate) syn: bool,
     /// What it acknowledges.
     pub(crate) ack: Option<u32>,
-    pub(crate) dropped: bool,
+    /// It covers octets and says nothing else of its stream: its line is a drop, or has no era.
+    pub(crate) covers_only: bool,
 }
 
 /// The streams of all eras.
 #[derive(Drop)]
-pub(crate) struct Flows {
-    pub(crate) eras: IndexMap<u32, Streams>,
-    /// How many octets their streams lack, by side.
-    pub(crate) missing: BySide,
-    /// How many gaps were filled behind their acknowledgment.
-    pub(crate) gaps: u64,
-    /// The octets of TCP that belong to no stream, by side.
-    pub(crate) loose: BySide,
+pub(crate) struct StreamTable {
+    alloc: Global,
+    eras: IndexMap<u32, EraStreams>,
 }
 
-impl Half {
+/// What the streams of all eras lack, and what followed its acknowledgment, by side.
+#[derive(Clone, Copy, Debug, Default, PartialEq, Eq)]
+pub(crate) struct StreamFaults {
+    /// Octets that were passed over and acknowledged, and that no segment has.
+    pub(crate) missing: BySide,
+    /// Gaps that were filled after their acknowledgment.
+    pub(crate) filled: BySide,
+}
+
+impl SideStream {
+    // Returns that nothing is known.
+    fn new(alloc: Global) -> SideStream {
+        SideStream {
+            base: None,
+            top: 0,
+            acked: 0,
+            covered: Coverage::new(alloc),
+            gap: Run::default(),
+            filled: 0,
+        }
+    }
+
     // Takes a segment of this side.
-    fn take_own(&mut self, seen: Seen) {
-        match self.base {
-            None => self.begin(seen),
-            Some(base) => {
-                let start = offset_of(base, self.top, seen.start, 0);
-                let stop = offset_of(base, self.top, seen.start, seen.size);
-                self.place(start, stop, seen);
-            }
-        }
-    }
-
-    // Takes the first segment of this side that is not dropped, or one before it.
-    fn begin(&mut self, seen: Seen) {
-        self.octets = self.octets.saturating_add(seen.size);
-        if !seen.dropped {
-            // A segment without octets may be a keep-alive, from one before the next number.
-            let skipped = if !seen.syn && seen.size == 0 { 1 } else { 0 };
-            self.base = Some(sequence_plus(seen.start, skipped));
-            self.top = seen.size;
-        }
-    }
-
-    // Counts the octets of a segment.
-    fn place(&mut self, start: Option<u64>, stop: Option<u64>, seen: Seen) {
-        let (Some(start), Some(stop)) = (start, stop) else {
-            self.octets = self.octets.saturating_add(seen.size);
-            return;
+    fn take_own(&mut self, segment: SegmentSeen) -> Result<(), NoMemory> {
+        let Some(base) = self.base_with(segment) else {
+            return Ok(());
         };
-        self.octets = self.octets.saturating_add(seen.size.min(stop));
-        if !seen.dropped {
-            self.fill(start, stop);
-            self.top = self.top.max(stop);
+        let Some(run) = run_of(base, self.top, segment.start, segment.size) else {
+            return Ok(());
+        };
+        self.covered.cover(run)?;
+        if !segment.covers_only {
+            self.fill(run);
+            self.top = self.top.max(run.stop);
         }
+        Ok(())
     }
 
-    // Fills the newest gap with octets from one offset to another.
-    fn fill(&mut self, start: u64, stop: u64) {
-        if self.front >= self.end || start > self.front || stop <= self.front {
+    // Returns the number of the first octet, which a first segment sets.
+    fn base_with(&mut self, segment: SegmentSeen) -> Option<u32> {
+        if self.base.is_none() && !segment.covers_only {
+            // A segment without octets may be a keep-alive, from one before the next number.
+            let skipped = if !segment.syn && segment.size == 0 {
+                1
+            } else {
+                0
+            };
+            self.base = Some(sequence_plus(segment.start, skipped));
+        }
+        self.base
+    }
+
+    // Fills the newest gap from its front.
+    fn fill(&mut self, run: Run) {
+        if self.gap.start >= self.gap.stop
+            || run.start > self.gap.start
+            || run.stop <= self.gap.start
+        {
             return;
         }
-        if stop < self.end {
-            self.front = stop;
-            return;
+        self.gap.start = run.stop.min(self.gap.stop);
+        if self.gap.start == self.gap.stop {
+            self.filled = self.filled.saturating_add(1);
         }
-        self.front = 0;
-        self.end = 0;
-        self.gaps = self.gaps.saturating_add(1);
     }
 
     // Takes a segment of the other side.
-    fn take_other(&mut self, seen: Seen) {
-        let (Some(ack), Some(base), false) = (seen.ack, self.base, seen.dropped) else {
+    fn take_other(&mut self, segment: SegmentSeen) {
+        let (Some(ack), Some(base), false) = (segment.ack, self.base, segment.covers_only) else {
             return;
         };
-        if let Some(offset) = offset_of(base, self.top, ack, 0) {
-            self.acknowledge(offset);
+        if let Some(run) = run_of(base, self.top, ack, 0) {
+            self.acknowledge(run.stop);
         }
     }
 
@@ -135,58 +143,59 @@ impl Half {
     fn acknowledge(&mut self, offset: u64) {
         let known = self.top.max(self.acked);
         if known < offset {
-            self.front = known;
-            self.end = offset;
+            self.gap = Run {
+                start: known,
+                stop: offset,
+            };
         }
         self.acked = self.acked.max(offset);
     }
 
-    // Notes how many octets are missing.
-    fn note_worst(&mut self) {
-        let missing = self.top.min(self.acked).saturating_sub(self.octets);
-        self.worst = self.worst.max(missing);
+    // Returns how many octets were passed over and acknowledged, and are in no segment.
+    fn missing(&self) -> u64 {
+        self.covered.missing_below(self.top.min(self.acked))
     }
 }
 
-impl Streams {
+impl EraStreams {
     // Returns that nothing is known.
-    fn new() -> Streams {
-        Streams::default()
+    fn new(alloc: Global) -> EraStreams {
+        EraStreams {
+            inward: SideStream::new(alloc),
+            outward: SideStream::new(alloc),
+            evicted: false,
+        }
     }
 
     // Takes a segment of this side.
-    fn take(&mut self, side: Side, seen: Seen) {
+    fn take(&mut self, side: Side, segment: SegmentSeen) -> Result<(), NoMemory> {
         match side {
             Side::Inward => {
-                self.inward.take_own(seen);
-                self.outward.take_other(seen);
+                self.outward.take_other(segment);
+                self.inward.take_own(segment)
             }
             Side::Outward => {
-                self.inward.take_other(seen);
-                self.outward.take_own(seen);
+                self.inward.take_other(segment);
+                self.outward.take_own(segment)
             }
         }
-        self.inward.note_worst();
-        self.outward.note_worst();
     }
 }
 
-impl Flows {
+impl StreamTable {
     /// Returns that nothing is known.
-    pub(crate) fn new(alloc: Global) -> Flows {
-        Flows {
+    pub(crate) fn new(alloc: Global) -> StreamTable {
+        StreamTable {
+            alloc,
             eras: IndexMap::new(alloc),
-            missing: BySide::default(),
-            gaps: 0,
-            loose: BySide::default(),
         }
     }
 
-    /// Returns what is known of an era.
-    pub(crate) fn streams(&self, era: u32) -> Streams {
+    /// Returns whether an era was evicted.
+    pub(crate) fn is_evicted(&self, era: u32) -> bool {
         match self.eras.get(&era) {
-            Some(streams) => *streams,
-            None => Streams::new(),
+            Some(streams) => streams.evicted,
+            None => false,
         }
     }
 
@@ -198,125 +207,123 @@ impl Flows {
         Ok(())
     }
 
+    // Notes whether an era was evicted.
     fn end(&mut self, ended: Ended) -> Result<(), NoMemory> {
-        let mut streams = self.streams(ended.era);
-        streams.evicted = matches!(ended.reason, Reason::Evicted);
+        let evicted = matches!(ended.reason, Reason::Evicted);
+        if let Some(streams) = self.eras.get_mut(&ended.era) {
+            streams.evicted = evicted;
+            return Ok(());
+        }
+        let mut streams = EraStreams::new(self.alloc);
+        streams.evicted = evicted;
         self.eras.insert(ended.era, streams)?;
         Ok(())
     }
 
-    /// Takes the packet of a line.
-    pub(crate) fn take(&mut self, entry: &Entry, flow: Flow, packet: &[u8]) -> Result<(), NoMemory>
-        requires { IsReadable packet.now }
-    {
-        if flow.protocol != protocol::TCP {
-            return Ok(());
-        }
-        match (marks_of(flow), entry.era) {
-            (Some(marks), Some(era)) => self.take_marks(era, entry, flow, marks),
-            _ => {
-                let octets = loose_octets(entry.rules.as_slice(), flow, packet);
-                self.loose.add(entry.side, octets);
-                Ok(())
-            }
-        }
-    }
-
-    // Takes a segment of an era, where it has a side and no RST.
-    fn take_marks(
+    /// Takes a segment of an era.
+    pub(crate) fn take(
         &mut self,
         era: u32,
-        entry: &Entry,
-        flow: Flow,
-        marks: TcpMarks,
+        side: Side,
+        segment: SegmentSeen,
     ) -> Result<(), NoMemory> {
-        match entry.side {
-            Some(side) if !marks.flags.rst() => {
-                let seen = seen_of(is_drop(entry.verdict), flow, marks);
-                self.take_seen(era, side, seen)
-            }
-            _ => Ok(()),
-        }
-    }
-
-    // Takes a segment of an era.
-    fn take_seen(&mut self, era: u32, side: Side, seen: Seen) -> Result<(), NoMemory> {
         if let Some(streams) = self.eras.get_mut(&era) {
-            let old = *streams;
-            streams.take(side, seen);
-            let new = *streams;
-            self.add_change(old, new);
-            return Ok(());
+            return streams.take(side, segment);
         }
-        let mut new = Streams::new();
-        new.take(side, seen);
-        self.eras.insert(era, new)?;
-        self.add_change(Streams::new(), new);
+        let mut streams = EraStreams::new(self.alloc);
+        streams.take(side, segment)?;
+        self.eras.insert(era, streams)?;
         Ok(())
     }
 
-    // Counts what is missing more than before.
-    fn add_change(&mut self, old: Streams, new: Streams) {
-        let inward = new.inward.worst.saturating_sub(old.inward.worst);
-        let outward = new.outward.worst.saturating_sub(old.outward.worst);
-        self.missing.add(Some(Side::Inward), inward);
-        self.missing.add(Some(Side::Outward), outward);
-        let filled = new.inward.gaps.saturating_sub(old.inward.gaps);
-        let more = new.outward.gaps.saturating_sub(old.outward.gaps);
-        self.gaps = self.gaps.saturating_add(filled.saturating_add(more));
+    /// Returns what the streams of all eras lack, and what followed its acknowledgment.
+    pub(crate) fn faults(&self) -> StreamFaults {
+        let mut faults = StreamFaults::default();
+        for place in 0..self.eras.len() {
+            let Some((_, streams)) = self.eras.get_index(place) else {
+                unreachable!();
+            };
+            faults.add(Side::Inward, &streams.inward);
+            faults.add(Side::Outward, &streams.outward);
+        }
+        faults
     }
 }
 
-// Returns how many octets a packet has of no stream; of a part of one at least those that its total
-// length leaves behind 40 octets of headers.
-fn loose_octets(rules: &[Rule], flow: Flow, packet: &[u8]) -> u64
+impl StreamFaults {
+    // Adds those of the stream of this side.
+    fn add(&mut self, side: Side, stream: &SideStream) {
+        self.missing.add(Some(side), stream.missing());
+        self.filled.add(Some(side), stream.filled);
+    }
+}
+
+impl SegmentSeen {
+    /// Returns what a segment says, whose line names these rules.
+    pub(crate) fn of(
+        rules: &[Rule],
+        flow: Flow,
+        marks: TcpMarks,
+        packet: &[u8],
+        covers_only: bool,
+    ) -> SegmentSeen
+        requires { IsReadable packet.now }
+    {
+        let flags = marks.flags;
+        let length = sent_length(rules, flow, packet);
+        SegmentSeen {
+            size: if flags.fin() {
+                length.saturating_add(1)
+            } else {
+                length
+            },
+            start: if flags.syn() {
+                sequence_plus(marks.seq, 1)
+            } else {
+                marks.seq
+            },
+            syn: flags.syn(),
+            ack: if flags.ack() { Some(marks.ack) } else { None },
+            covers_only,
+        }
+    }
+}
+
+// Returns the length of a segment's payload in octets; that of its total length where the capture
+// has only a part of it.
+fn sent_length(rules: &[Rule], flow: Flow, packet: &[u8]) -> u64
     requires { IsReadable packet.now }
 {
     if !names(rules, Rule::LSnap) {
         return flow.length;
     }
-    let total = u64::from(u16_at(packet, 2));
-    flow.length.max(total.saturating_sub(40))
+    let headers = (message_end(packet) as u64).saturating_sub(flow.length);
+    u64::from(u16_at(packet, 2)).saturating_sub(headers)
 }
 
-// Returns what a segment says of its era.
-fn seen_of(dropped: bool, flow: Flow, marks: TcpMarks) -> Seen {
-    let flags = marks.flags;
-    Seen {
-        size: if flags.fin() {
-            flow.length.saturating_add(1)
-        } else {
-            flow.length
-        },
-        start: if flags.syn() {
-            sequence_plus(marks.seq, 1)
-        } else {
-            marks.seq
-        },
-        syn: flags.syn(),
-        ack: if flags.ack() { Some(marks.ack) } else { None },
-        dropped,
-    }
+// Returns the offsets of `size` octets from a sequence number on, which is read nearest to `top`;
+// None if it is more than 2^30 octets away.
+fn run_of(base: u32, top: u64, number: u32, size: u64) -> Option<Run> {
+    let far = sequence_distance(sequence_plus(base, top), number);
+    run_at(top, far, size)
 }
 
-// Returns the offset of a sequence number, read nearest to `top`, and `more` octets further; None if
-// it is more than 2^30 octets away.
-fn offset_of(base: u32, top: u64, number: u32, more: u64) -> Option<u64> {
-    offset_by(
-        top,
-        sequence_distance(sequence_plus(base, top), number),
-        more,
-    )
-}
-
-fn offset_by(top: u64, far: u64, more: u64) -> Option<u64>
+fn run_at(top: u64, far: u64, size: u64) -> Option<Run>
     requires { far < 2 ^ 32 }
 {
     if far <= FAR {
-        Some(top.saturating_add(far).saturating_add(more))
-    } else if far < TURN - FAR {
-        None
-    } else {
-        Some(top.saturating_add(more).saturating_sub(TURN - far))
+        let start = top.saturating_add(far);
+        return Some(Run {
+            start,
+            stop: start.saturating_add(size),
+        });
     }
+    if far < TURN - FAR {
+        return None;
+    }
+    let back = TURN - far;
+    Some(Run {
+        start: top.saturating_sub(back),
+        stop: top.saturating_add(size).saturating_sub(back),
+    })
 }

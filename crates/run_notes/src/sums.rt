@@ -14,9 +14,9 @@ pub(crate) struct Sums {
     pub(crate) packets: u64,
     /// Those that carry a segment or a UDP datagram and are no fragments.
     pub(crate) carried: BySide,
-    /// Those of which a checksum or the total length is left to the network card.
+    /// Those whose checksum or total length is left to the network card.
     pub(crate) to_card: BySide,
-    /// Those of which a checksum is wrong otherwise.
+    /// Those with a checksum that is wrong for another reason.
     pub(crate) wrong: BySide,
 }
 
@@ -57,7 +57,7 @@ fn is_left(rules: &[Rule], flow: Flow, packet: &[u8]) -> bool
     message || header || total
 }
 
-// Returns whether a checksum is wrong otherwise.
+// Returns whether a checksum is wrong for another reason.
 fn is_wrong(rules: &[Rule], left: bool) -> bool {
     let named = names_sum(rules) || names(rules, Rule::ISum);
     named && !left

@@ -1,7 +1,7 @@
 //! Connections that a capture does not begin.
 
-use crate::line::{marks_of, names, plus_if};
-use crate::streams::Flows;
+use crate::line::{names, plus_if};
+use crate::streams::StreamTable;
 use edge_io::NoMemory;
 use frame_view::{Flow, Ports, TcpMarks};
 use indexmap::IndexMap;
@@ -9,18 +9,20 @@ use rule_book::{Entry, Rule};
 use std::alloc::Global;
 use wire_base::{FlowKey, Side};
 
-/// The four-tuples of eras, and segments that go on with a connection.
+/// The four-tuples of eras, and segments of connections without a beginning.
 #[derive(Drop)]
 pub(crate) struct Tuples {
     /// The last era of each four-tuple.
-    pub(crate) eras: IndexMap<FlowKey, u32>,
+    eras: IndexMap<FlowKey, u32>,
     /// How many eras have begun.
     pub(crate) begun: u64,
     /// How many of them without SYN, of a new four-tuple.
     pub(crate) middle: u64,
-    /// The octets of segments that were replaced by a probe, of a new four-tuple.
+    /// How many inbound segments have payload.
+    pub(crate) inbound: u64,
+    /// How many of them were replaced by a probe, of a new four-tuple.
     pub(crate) probed: u64,
-    /// How many segments go on with a connection of which the last era was evicted.
+    /// How many segments continue a connection whose last era was evicted.
     pub(crate) resumed: u64,
 }
 
@@ -31,36 +33,69 @@ impl Tuples {
             eras: IndexMap::new(alloc),
             begun: 0,
             middle: 0,
+            inbound: 0,
             probed: 0,
             resumed: 0,
         }
     }
 
-    /// Takes the packet of a line, where it is a segment that is no fragment and has a side.
-    pub(crate) fn take(&mut self, entry: &Entry, flow: Flow, eras: &Flows) -> Result<(), NoMemory> {
-        match (entry.side, flow.ports, marks_of(flow)) {
-            (Some(side), Some(ports), Some(marks)) => {
-                let key = key_of(side, flow, ports);
-                self.go_on(key, entry, flow.length, marks, eras);
-                self.begin(key, entry.begun)
-            }
-            _ => Ok(()),
+    /// Takes a segment with these marks.
+    pub(crate) fn take(
+        &mut self,
+        entry: &Entry,
+        flow: Flow,
+        marks: TcpMarks,
+        streams: &StreamTable,
+    ) -> Result<(), NoMemory> {
+        let (Some(side), Some(ports)) = (entry.side, flow.ports) else {
+            return Ok(());
+        };
+        let key = key_of(side, flow, ports);
+        let sends = side == Side::Inward && flow.length > 0;
+        self.inbound = plus_if(sends, self.inbound);
+        self.go_on(key, entry, marks, sends, streams);
+        self.begin(key, entry.begun)
+    }
+
+    /// Returns the last era of a segment's four-tuple, and the side of the segment there. One
+    /// without a side is tried as an inbound one first.
+    pub(crate) fn last_era(&self, side: Option<Side>, flow: Flow) -> Option<(u32, Side)> {
+        match side {
+            Some(side) => self.era_at(side, flow),
+            None => match self.era_at(Side::Inward, flow) {
+                Some(found) => Some(found),
+                None => self.era_at(Side::Outward, flow),
+            },
         }
     }
 
-    // Takes a segment of this four-tuple, where it goes on with a connection.
-    fn go_on(&mut self, key: FlowKey, entry: &Entry, octets: u64, marks: TcpMarks, eras: &Flows) {
+    // Returns the last era of the four-tuple of a segment of this side, and the side.
+    fn era_at(&self, side: Side, flow: Flow) -> Option<(u32, Side)> {
+        let ports = flow.ports?;
+        let era = self.last(key_of(side, flow, ports))?;
+        Some((era, side))
+    }
+
+    // Takes a segment of this four-tuple, where it continues a connection. `sends` says whether it
+    // is inbound and has payload.
+    fn go_on(
+        &mut self,
+        key: FlowKey,
+        entry: &Entry,
+        marks: TcpMarks,
+        sends: bool,
+        streams: &StreamTable,
+    ) {
         let middle = is_middle(entry, marks);
         let probed = is_probed(entry, marks);
         if !middle && !probed {
             return;
         }
         match self.last(key) {
-            Some(era) => self.resumed = plus_if(eras.streams(era).evicted, self.resumed),
+            Some(era) => self.resumed = plus_if(streams.is_evicted(era), self.resumed),
             None => {
                 self.middle = plus_if(middle, self.middle);
-                let own = if middle { 0 } else { octets };
-                self.probed = self.probed.saturating_add(own);
+                self.probed = plus_if(probed && sends, self.probed);
             }
         }
     }
@@ -90,7 +125,7 @@ fn is_probed(entry: &Entry, marks: TcpMarks) -> bool {
     named && entry.begun.is_none() && entry.era.is_none() && !marks.flags.rst()
 }
 
-// Returns the four-tuple of a segment.
+// Returns the four-tuple of a segment of this side.
 fn key_of(side: Side, flow: Flow, ports: Ports) -> FlowKey {
     match side {
         Side::Inward => FlowKey {

@@ -11,12 +11,12 @@ use wire_base::protocol;
 /// How many packets are in a capture twice, and those of the last four records.
 #[derive(Drop)]
 pub(crate) struct Twins {
-    /// How many packets can be told from the next one of their senders.
+    /// How many packets have an identification by which the next one of their sender differs.
     pub(crate) candidates: u64,
     /// How many of them equal one of the four records before them.
     pub(crate) twice: u64,
-    /// The octets of the packets of the last four records, the newest first; none of a record that is
-    /// no candidate.
+    /// The octets of the packets of the last four records, the newest first; none of a record that
+    /// is no candidate.
     first: Vec<u8>,
     second: Vec<u8>,
     third: Vec<u8>,
@@ -55,7 +55,7 @@ impl Twins {
         self.first.clear();
     }
 
-    // Takes a packet that can be told from the next one.
+    // Takes a packet with an identification.
     fn take_candidate(&mut self, octets: &[u8]) -> Result<(), NoMemory> {
         let found = self.has_twin(octets);
         self.twice = plus_if(found, self.twice);
@@ -75,7 +75,7 @@ impl Twins {
     }
 }
 
-// Returns whether a packet can be told from the next one of its sender.
+// Returns whether a packet has an identification by which the next one of its sender differs.
 fn is_candidate(flow: Flow) -> bool {
     let known = matches!(
         flow.protocol,
@@ -85,12 +85,12 @@ fn is_candidate(flow: Flow) -> bool {
 }
 
 // Returns whether two packets are equal but for the time to live and the header checksum. The low
-// octet of the identification tells most packets apart.
+// octet of the identification differs between most packets.
 fn is_twin(a: &[u8], b: &[u8]) -> bool {
     octet_at(a, 5) == octet_at(b, 5)
         && octet_at(a, 9) == octet_at(b, 9)
         && front(a) == front(b)
-        && behind(a) == behind(b)
+        && after_checksum(a) == after_checksum(b)
 }
 
 // Returns the octets before the time to live.
@@ -98,7 +98,7 @@ fn front(octets: &[u8]) -> &[u8] {
     &octets[..octets.len().min(8)]
 }
 
-// Returns the octets behind the header checksum.
-fn behind(octets: &[u8]) -> &[u8] {
+// Returns the octets after the header checksum.
+fn after_checksum(octets: &[u8]) -> &[u8] {
     &octets[octets.len().min(12)..]
 }

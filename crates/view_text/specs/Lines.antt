@@ -7,9 +7,10 @@ use Rattle.frame_view.specs.Changes as changes
 use Rattle.frame_view.specs.declared.flow.Flow.{Flow}
 use Rattle.view_text.specs.declared.view.ShownLine.{ShownLine}
 
--- A line of the report with its record: `own` is the number of the line, `time` is in nanoseconds since the beginning of 1970, and the entry has side,
--- verdict, rules, and the eras that the line belongs to, began and ended. Its frames are given to a second engine, or stand in OUT behind `before` others;
--- `changes` is what differs between the record and them.
+-- A line of the report with its record. `own` is the number of the line, and `time` is in
+-- nanoseconds since the beginning of 1970. The entry has side, verdict, rules, and the eras that
+-- the line belongs to, began and ended. Its frames are given to a second engine, or are in OUT
+-- after `before` others; `changes` is what differs between the record and them.
 pub record PlainLine : Type 0 where
   pub number : ℕ
   pub second : Bool

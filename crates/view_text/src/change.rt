@@ -1,41 +1,57 @@
 //! What differs between a record and its frames, in each format.
 
-use crate::Format;
+use crate::field::{close_list, open_list, put_parts, put_values, separator};
 use crate::flow::{ack_of, flags_of, proto_of, seq_of};
-use crate::json::{put_members, put_name, put_object};
-use crate::part::{Part, Value, Word, dashed, hidden, of_text, shown};
-use crate::pieces::{Put, between, comma_where, put_number, put_text};
-use crate::print::{close_list, open_list, put_parts, separator};
+use crate::json::{put_member, put_members, put_name};
+use crate::put::{Put, between, put_number, put_text};
+use crate::value::{Part, Value, Word, dashed, hidden, number_if, of_text, shown};
 use crate::word::made_word;
+use crate::{Format, ShownLine};
 use frame_view::{Change, Field, Flow, Made, PayloadChange, Replaced, Said};
+use run_notes::Clash;
 use wire_base::Addr;
-
-// Returns the number in a field.
-fn number_of(field: Field, number: u32) -> Value<'static> {
-    match field {
-        Field::HeaderChecksum | Field::Checksum => Value::Word(Word::Hex16(number)),
-        Field::Source | Field::Destination => Value::Word(Word::Address(Addr(number))),
-        Field::Flags => Value::Word(Word::Flags(number)),
-        _ => Value::Number(u64::from(number)),
-    }
-}
 
 // Returns what a frame says in a field.
 fn said_value(field: Field, said: &Said) -> Value<'_> {
     match said {
         Said::Nothing => Value::Absent,
-        Said::Number(number) => number_of(field, *number),
+        Said::Number(number) => Value::Word(number_word(field, *number)),
         Said::Octets(octets) => Value::Word(Word::Hex(octets.as_slice())),
     }
 }
 
-// Returns octets behind their count, where there are some.
+// Returns the text of the number in a field.
+fn number_word(field: Field, number: u32) -> Word<'static> {
+    match field {
+        Field::HeaderChecksum | Field::Checksum => Word::Hex16(number),
+        Field::Source | Field::Destination => Word::Address(Addr(number)),
+        Field::Flags => Word::Flags(number),
+        _ => Word::Decimal(number),
+    }
+}
+
+// Returns the number in a field, where its text is decimal.
+fn said_number(field: Field, said: &Said) -> Value<'static> {
+    match said {
+        Said::Number(number) if matches!(number_word(field, *number), Word::Decimal(_)) => {
+            Value::Number(u64::from(*number))
+        }
+        _ => Value::Absent,
+    }
+}
+
+// Returns octets after their count, where there are some.
 fn some_octets(octets: &[u8]) -> Value<'_> {
     if octets.is_empty() {
         Value::Absent
     } else {
         Value::Counted(octets)
     }
+}
+
+// Returns the number of a frame, which its lead has on a text line.
+fn frame_part(frame: u32) -> Part<'static> {
+    hidden("frame", Value::Number(u64::from(frame)))
 }
 
 // Returns that a frame that norm made itself is compared with no record.
@@ -47,19 +63,21 @@ fn compared(kind: Made) -> Part<'static> {
 }
 
 // Returns what differs in a field.
-fn field_parts<'a>(frame: u32, field: Field, from: &'a Said, to: &'a Said) -> [Part<'a>; 4] {
+fn field_parts<'a>(frame: u32, field: Field, from: &'a Said, to: &'a Said) -> [Part<'a>; 6] {
     [
-        hidden("frame", Value::Number(u64::from(frame))),
+        frame_part(frame),
         shown("field", "", of_text(field.name())),
         dashed("from", " ", said_value(field, from)),
         dashed("to", " > ", said_value(field, to)),
+        hidden("from_number", said_number(field, from)),
+        hidden("to_number", said_number(field, to)),
     ]
 }
 
 // Returns what differs in a payload, but for the runs that were replaced.
 fn payload_parts(frame: u32, change: &PayloadChange) -> [Part<'_>; 5] {
     [
-        hidden("frame", Value::Number(u64::from(frame))),
+        frame_part(frame),
         shown("field", "", of_text("payload")),
         shown("front", " front ", some_octets(change.front.as_slice())),
         shown("end", " end ", some_octets(change.end.as_slice())),
@@ -70,7 +88,7 @@ fn payload_parts(frame: u32, change: &PayloadChange) -> [Part<'_>; 5] {
 // Returns what a frame is that norm made itself.
 fn made_parts(frame: u32, kind: Made, flow: Option<Flow>, length: u64) -> [Part<'static>; 8] {
     [
-        hidden("frame", Value::Number(u64::from(frame))),
+        frame_part(frame),
         shown("field", "", of_text(made_word(kind))),
         shown("proto", " ", proto_of(flow)),
         shown("flags", " ", flags_of(flow)),
@@ -81,84 +99,70 @@ fn made_parts(frame: u32, kind: Made, flow: Option<Flow>, length: u64) -> [Part<
     ]
 }
 
-// Returns a run of octets that were replaced.
-fn run_parts(run: &Replaced) -> [Part<'_>; 3] {
+// Returns octets from an offset on, those in their place, and the record that first sent these.
+fn run_parts<'a>(at: u64, from: &'a [u8], to: &'a [u8], first: Option<u32>) -> [Part<'a>; 4] {
     [
-        shown("at", " at ", Value::Number(run.at as u64)),
-        shown("from", " ", Value::Octets(run.from.as_slice())),
-        shown("to", " > ", Value::Octets(run.to.as_slice())),
+        shown("at", " at ", Value::Number(at)),
+        shown("from_octets", " ", Value::Octets(from)),
+        shown("to_octets", " > ", Value::Octets(to)),
+        shown("first", " first ", number_if(first.map(u64::from))),
     ]
 }
 
-// Writes a run of octets that were replaced.
-fn put_run(text: &mut String, json: bool, run: &Replaced) -> Put {
-    if json {
-        return put_object(text, &run_parts(run));
-    }
-    put_parts(text, &run_parts(run))
-}
-
-// Writes runs of octets that were replaced.
-fn put_runs(text: &mut String, json: bool, runs: &[Replaced]) -> Put {
-    for (at, run) in runs.iter().enumerate() {
-        put_text(text, between(at, comma_where(json)))?;
-        put_run(text, json, run)?;
+// Writes runs of octets that were replaced, with the records that first sent them.
+fn put_runs(text: &mut String, format: Format, runs: &[Replaced], firsts: &[Option<u32>]) -> Put {
+    for (index, run) in runs.iter().enumerate() {
+        put_text(text, between(index, separator(format)))?;
+        let first = firsts.get(index).copied().flatten();
+        let parts = run_parts(run.at as u64, run.from.as_slice(), run.to.as_slice(), first);
+        put_values(text, format, &parts)?;
     }
     Ok(())
 }
 
-// Writes named values as text, or as members of an object.
-fn put_either(text: &mut String, json: bool, parts: &[Part<'_>]) -> Put {
-    if json {
-        return put_members(text, parts);
-    }
-    put_parts(text, parts)
-}
-
-// Writes what differs in a field, as text or as the members of an object.
-fn put_field(
+// Writes what differs in a payload.
+fn put_payload(
     text: &mut String,
-    json: bool,
+    format: Format,
     frame: u32,
-    field: Field,
-    from: &Said,
-    to: &Said,
+    change: &PayloadChange,
+    firsts: &[Option<u32>],
 ) -> Put {
-    put_either(text, json, &field_parts(frame, field, from, to))
-}
-
-// Writes what differs in a payload as text.
-fn put_payload_text(text: &mut String, frame: u32, change: &PayloadChange) -> Put {
-    put_parts(text, &payload_parts(frame, change))?;
-    put_runs(text, false, change.replaced.as_slice())
-}
-
-// Writes what differs in a payload as the members of an object.
-fn put_payload_json(text: &mut String, frame: u32, change: &PayloadChange) -> Put {
-    put_members(text, &payload_parts(frame, change))?;
+    let runs = change.replaced.as_slice();
+    put_inner(text, format, &payload_parts(frame, change))?;
+    if format != Format::Json {
+        return put_runs(text, format, runs, firsts);
+    }
     put_name(text, true, "replaced")?;
     put_text(text, "[")?;
-    put_runs(text, true, change.replaced.as_slice())?;
+    put_runs(text, format, runs, firsts)?;
     put_text(text, "]")
 }
 
+// Writes named values as the members of an object, or as text.
+fn put_inner(text: &mut String, format: Format, parts: &[Part<'_>]) -> Put {
+    match format {
+        Format::Json => put_members(text, parts),
+        Format::Text | Format::Table => put_parts(text, parts),
+    }
+}
+
 // Writes a change as text, or as the members of an object.
-fn put_change(text: &mut String, json: bool, change: &Change) -> Put {
+fn put_change(text: &mut String, format: Format, change: &Change, firsts: &[Option<u32>]) -> Put {
     match change {
         Change::InField {
             frame,
             field,
             from,
             to,
-        } => put_field(text, json, *frame, *field, from, to),
-        Change::InPayload { frame, payload } if json => put_payload_json(text, *frame, payload),
-        Change::InPayload { frame, payload } => put_payload_text(text, *frame, payload),
+        } => put_inner(text, format, &field_parts(*frame, *field, from, to)),
+        Change::InPayload { frame, payload } => put_payload(text, format, *frame, payload, firsts),
         Change::Made {
             frame,
             kind,
             flow,
             length,
-        } => put_either(text, json, &made_parts(*frame, *kind, *flow, *length)),
+        } => put_inner(text, format, &made_parts(*frame, *kind, *flow, *length)),
     }
 }
 
@@ -180,66 +184,115 @@ fn name_of(change: &Change) -> &'static str {
     }
 }
 
-// Writes what precedes a change of `frame` if the change before it is one of the frame `before`.
-fn put_lead(text: &mut String, before: u32, frame: u32) -> Put {
+// Returns the number of runs of octets that were replaced.
+fn runs_of(change: &Change) -> usize {
+    match change {
+        Change::InPayload { payload, .. } => payload.replaced.len(),
+        Change::InField { .. } | Change::Made { .. } => 0,
+    }
+}
+
+// Writes what precedes a change of `frame` on a text line, if the change before it is one of the
+// frame `before`, 0 for none. Changes on a line of the second engine are those of both.
+fn put_lead(text: &mut String, second: bool, before: u32, frame: u32) -> Put {
     if before == frame {
         return put_text(text, ", ");
     }
-    put_text(text, "; frame ")?;
+    let both = second && before == 0;
+    put_text(
+        text,
+        if both {
+            "; by both engines: frame "
+        } else {
+            "; frame "
+        },
+    )?;
     put_number(text, u64::from(frame))?;
     put_text(text, " ")
 }
 
-// Writes changes as text, frame by frame.
-fn put_changes_text(text: &mut String, list: &[Change]) -> Put {
+// Writes a change with what precedes it, as an element of a list.
+fn put_element(
+    text: &mut String,
+    format: Format,
+    at: usize,
+    change: &Change,
+    firsts: &[Option<u32>],
+) -> Put {
+    put_text(text, between(at, separator(format)))?;
+    if format == Format::Table {
+        put_number(text, u64::from(frame_of(change)))?;
+        put_text(text, ":")?;
+        return put_text(text, name_of(change));
+    }
+    put_text(text, "{")?;
+    put_change(text, format, change, firsts)?;
+    put_text(text, "}")
+}
+
+// Returns what follows this number of runs.
+fn after(firsts: &[Option<u32>], runs: usize) -> &[Option<u32>] {
+    match firsts.get(runs..) {
+        Some(rest) => rest,
+        None => &[],
+    }
+}
+
+// Writes changes frame by frame, each with the records that first sent its replaced octets.
+fn put_each(text: &mut String, format: Format, line: &ShownLine) -> Put {
+    let mut firsts = line.firsts.as_slice();
     let mut before = 0;
-    for change in list {
+    for (at, change) in line.changes.iter().enumerate() {
         let frame = frame_of(change);
-        put_lead(text, before, frame)?;
-        put_change(text, false, change)?;
+        if format == Format::Text {
+            put_lead(text, line.second, before, frame)?;
+            put_change(text, format, change, firsts)?;
+        } else {
+            put_element(text, format, at, change, firsts)?;
+        }
         before = frame;
+        firsts = after(firsts, runs_of(change));
     }
     Ok(())
 }
 
-// Writes a change, on a text line behind its lead.
-fn put_one_change(text: &mut String, format: Format, change: &Change) -> Put {
+// Returns octets of a fragment that differ from those held.
+fn clash_parts(clash: &Clash) -> [Part<'_>; 4] {
+    run_parts(
+        clash.at,
+        clash.from.as_slice(),
+        clash.to.as_slice(),
+        Some(clash.first),
+    )
+}
+
+// Writes octets of a fragment that differ from those held, after `count` changes.
+fn put_clash(text: &mut String, format: Format, count: usize, clash: &Clash) -> Put {
+    put_text(text, between(count, separator(format)))?;
     match format {
-        Format::Text => put_change(text, false, change),
+        Format::Text => {
+            put_text(text, "; fragment")?;
+            put_parts(text, &clash_parts(clash))
+        }
         Format::Json => {
-            put_text(text, "{")?;
-            put_change(text, true, change)?;
+            put_text(text, "{\"frame\":null")?;
+            put_member(text, true, &hidden("field", of_text("fragment")))?;
+            put_text(text, ",")?;
+            put_members(text, &clash_parts(clash))?;
             put_text(text, "}")
         }
-        Format::Table => {
-            put_number(text, u64::from(frame_of(change)))?;
-            put_text(text, ":")?;
-            put_text(text, name_of(change))
-        }
+        Format::Table => put_text(text, "-:fragment"),
     }
 }
 
-// Writes changes, with what separates them.
-fn put_all_changes(text: &mut String, format: Format, list: &[Change]) -> Put {
-    for (at, change) in list.iter().enumerate() {
-        put_text(text, between(at, separator(format)))?;
-        put_one_change(text, format, change)?;
+/// Writes the field of what differs between a record and its frames, and between a fragment and
+/// those held.
+pub(crate) fn put_changes(text: &mut String, format: Format, line: &ShownLine) -> Put {
+    let count = line.changes.len();
+    open_list(text, format, "changes", count == 0 && line.clash.is_none())?;
+    put_each(text, format, line)?;
+    if let Some(clash) = &line.clash {
+        put_clash(text, format, count, clash)?;
     }
-    Ok(())
-}
-
-// Writes changes as an array or as a cell.
-fn put_listed(text: &mut String, format: Format, list: &[Change]) -> Put {
-    open_list(text, format, "changes", list.is_empty())?;
-    put_all_changes(text, format, list)?;
-    close_list(text, format)?;
-    Ok(())
-}
-
-/// Writes the field of what differs between a record and its frames.
-pub(crate) fn put_changes(text: &mut String, format: Format, list: &[Change]) -> Put {
-    match format {
-        Format::Text => put_changes_text(text, list),
-        Format::Json | Format::Table => put_listed(text, format, list),
-    }
+    close_list(text, format)
 }

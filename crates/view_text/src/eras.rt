@@ -1,10 +1,9 @@
 //! The line of an era.
 
+use crate::field::{put_fields, put_list};
 use crate::flow::{destination_of, destination_port, source_of, source_port};
-use crate::list::put_rules;
-use crate::part::{Part, Value, Word, dashed, hidden, number_if, of_text, only_if, shown};
-use crate::pieces::Put;
-use crate::print::put_fields;
+use crate::put::Put;
+use crate::value::{Part, Value, Word, dashed, hidden, number_if, of_text, only_if, shown};
 use crate::word::{by_word, end_word, opened_word};
 use crate::{EraView, Format, Opened};
 
@@ -67,11 +66,11 @@ fn counts<'a>(view: &EraView<'a>) -> [Part<'a>; 4] {
     ]
 }
 
-/// Writes the fields behind the number of the era.
+/// Writes the fields after the number of the era.
 pub(crate) fn put_era(text: &mut String, format: Format, view: &EraView<'_>) -> Put {
     put_fields(text, format, &hosts(view))?;
     put_fields(text, format, &times(view))?;
     put_fields(text, format, &counts(view))?;
-    put_rules(text, format, false, view.rules)?;
+    put_list(text, format, "rules", view.rules)?;
     Ok(())
 }

@@ -1,6 +1,6 @@
 //! What the headers of a packet say, as values.
 
-use crate::part::{Value, Word};
+use crate::value::{Value, Word};
 use frame_view::{Flow, IcmpMarks, Ports, TcpMarks};
 
 // Returns the ports of a flow, where it has them.

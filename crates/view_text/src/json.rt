@@ -1,11 +1,11 @@
 //! Named values as JSON.
 
 use crate::octets::put_octets_json;
-use crate::part::{Part, Value};
-use crate::pieces::{Put, between, put_number, put_text};
+use crate::put::{Put, between, put_number, put_text};
+use crate::value::{Part, Value};
 use crate::word::put_word;
 
-// Writes the numbers of so many frames, behind those before them, as an array.
+// Writes the numbers of this number of frames, after those before them, as an array.
 fn put_numbers(text: &mut String, before: u64, count: u8) -> Put {
     put_text(text, "[")?;
     for at in 0..count {
@@ -15,7 +15,7 @@ fn put_numbers(text: &mut String, before: u64, count: u8) -> Put {
     put_text(text, "]")
 }
 
-// Writes a value behind the quote that ends its name, and a colon.
+// Writes a value after the quote that ends its name, and a colon.
 #[inline(always)]
 fn put_value(text: &mut String, value: Value<'_>) -> Put {
     match value {
@@ -42,7 +42,7 @@ fn put_value(text: &mut String, value: Value<'_>) -> Put {
     }
 }
 
-// Writes the quote before a name; behind a comma if it is not the first.
+// Writes the quote before a name; after a comma if it is not the first.
 #[inline(always)]
 fn put_quote(text: &mut String, comma: bool) -> Put {
     if comma {
@@ -51,14 +51,14 @@ fn put_quote(text: &mut String, comma: bool) -> Put {
     put_text(text, "\"")
 }
 
-/// Writes the name of a member, in quotes, and a colon; behind a comma if it is not the first.
+/// Writes the name of a member, in quotes, and a colon; after a comma if it is not the first.
 pub(crate) fn put_name(text: &mut String, comma: bool, name: &str) -> Put {
     put_quote(text, comma)?;
     put_text(text, name)?;
     put_text(text, "\":")
 }
 
-/// Writes a named value as a member; behind a comma if it is not the first.
+/// Writes a named value as a member; after a comma if it is not the first.
 #[inline(always)]
 pub(crate) fn put_member(text: &mut String, comma: bool, part: &Part<'_>) -> Put {
     put_quote(text, comma)?;

@@ -1,13 +1,13 @@
 //! The lines of the view.
 
 use crate::eras::{era_lead, put_era};
+use crate::field::{begun, end_line, put_fields};
 use crate::notes::{note_name, put_note};
-use crate::part::{Value, hidden, of_text, shown};
-use crate::pieces::put_text;
-use crate::print::{begun, end_line, put_fields};
+use crate::put::put_text;
 use crate::records::put_record;
-use crate::runs::put_summary;
-use crate::{EraView, Format, ShownLine, Summary};
+use crate::run_summary::put_summary;
+use crate::value::{Part, Value, hidden, of_text, shown};
+use crate::{EraView, EvidenceCounts, Format, ShownLine, Summary};
 use edge_io::NoMemory;
 use run_notes::Note;
 use std::alloc::Global;
@@ -16,14 +16,22 @@ use std::alloc::Global;
 #[rattlefmt::skip]
 const RECORD_HEADING: &str = "record\tby\tnumber\ttime\tseconds\tnanoseconds\tside\tsrc_ip\tsrc_port\tdest_ip\t\
     dest_port\tproto\tethertype\tflags\tseq\tack\twindow\ticmp_type\ticmp_code\tid\t\
-    offset\tmore\tlength\tverdict\tera\tbegun\tended\trules\tframes\tgiven\tout\t\
-    changes\n";
+    offset\tmore\tlength\tverdict\tera\tbegun\tended\trules\tframes\tgiven\tframes_out\t\
+    changes\tchanges_by\n";
 
 // The heading of a table of eras.
 #[rattlefmt::skip]
 const ERA_HEADING: &str = "era\tby\toutside_ip\toutside_port\tinside_ip\tinside_port\topened\tfirst\t\
     first_seconds\tfirst_nanoseconds\tlast\tlast_seconds\tlast_nanoseconds\trecords\t\
     sent\toctets\tend\trules\n";
+
+// What a text line says after the number of each class of evidence, with the name of the next.
+const BEFORE_DIFFERS: &str =
+    ": octets that differ from those first sent (T_CLASH, F_CLASH)\ndiffers ";
+
+const BEFORE_NOISE: &str = ": some hosts may read these otherwise\nnoise ";
+
+const NOISE: &str = ": segments without payload that are dropped, mostly scans (T_COLD, T_FLAGS)";
 
 /// Returns the line of a record.
 pub fn record_line(
@@ -70,6 +78,35 @@ pub fn chosen_line(alloc: Global, format: Format, records: u64) -> Result<String
     let mut line = begun(alloc, format, "chosen", &first)?;
     end_line(&mut line, format)?;
     Ok(line)
+}
+
+/// Returns what follows the line of how many records were chosen as evidence: a line for each class
+/// as text, one object as JSON.
+pub fn evidence_lines(
+    alloc: Global,
+    format: Format,
+    counts: &EvidenceCounts,
+) -> Result<String, NoMemory> {
+    let first = shown(
+        "contradictions",
+        "contradictions ",
+        Value::Number(counts.contradictions),
+    );
+    let mut lines = begun(alloc, format, "evidence", &first)?;
+    put_fields(&mut lines, format, &evidence_parts(counts))?;
+    if format == Format::Text {
+        put_text(&mut lines, NOISE)?;
+    }
+    end_line(&mut lines, format)?;
+    Ok(lines)
+}
+
+// Returns the counts of the second and the third class of evidence.
+fn evidence_parts(counts: &EvidenceCounts) -> [Part<'static>; 2] {
+    [
+        shown("differs", BEFORE_DIFFERS, Value::Number(counts.differs)),
+        shown("noise", BEFORE_NOISE, Value::Number(counts.noise)),
+    ]
 }
 
 /// Returns the lines of notes, in their order.

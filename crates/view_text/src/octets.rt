@@ -1,12 +1,12 @@
 //! Octets in quotes.
 
-use crate::pieces::{Put, put_char, put_number, put_text};
+use crate::put::{Put, put_char, put_number, put_text};
 use crate::word::{put_hex, put_octet};
 
-// The most octets that stand between quotes.
+// The most octets that are between quotes.
 const MOST: usize = 64;
 
-// Writes an octet as it stands between quotes; in JSON each `"` and `\` of that has another `\`.
+// Writes an octet as it is between quotes; in JSON each `"` and `\` of that has another `\`.
 fn put_quoted(text: &mut String, json: bool, octet: u8) -> Put {
     match (octet, json) {
         (b'"', false) => put_text(text, "\\\""),
@@ -30,7 +30,7 @@ fn first_octets(octets: &[u8]) -> &[u8] {
     &octets[..octets.len().min(MOST)]
 }
 
-// Writes the first octets as they stand between quotes.
+// Writes the first octets as they are between quotes.
 fn put_front(text: &mut String, json: bool, octets: &[u8]) -> Put {
     for octet in first_octets(octets) {
         put_quoted(text, json, *octet)?;
@@ -38,7 +38,7 @@ fn put_front(text: &mut String, json: bool, octets: &[u8]) -> Put {
     Ok(())
 }
 
-// Writes how many octets are left out behind the quotes.
+// Writes how many octets are left out after the quotes.
 fn put_rest(text: &mut String, count: usize) -> Put {
     if count <= MOST {
         return Ok(());

@@ -1,14 +1,14 @@
 //! The line of a record.
 
 use crate::change::put_changes;
+use crate::field::{put_fields, put_list};
 use crate::flow::{
     ack_of, destination_of, destination_port, flags_of, icmp_code_of, icmp_type_of, id_of, more_of,
     offset_of, proto_of, seq_of, source_of, source_port, window_of,
 };
-use crate::list::{put_ended, put_rules};
-use crate::part::{Part, Value, Word, dashed, hidden, number_if, of_text, only_if, shown};
-use crate::pieces::Put;
-use crate::print::put_fields;
+use crate::put::Put;
+use crate::rule_list::put_explained;
+use crate::value::{Part, Value, Word, dashed, hidden, number_if, of_text, only_if, shown};
 use crate::word::{by_word, side_word, verdict_word};
 use crate::{Format, ShownLine};
 use frame_view::Flow;
@@ -42,7 +42,7 @@ fn side_of(side: Option<Side>) -> Value<'static> {
 fn ether_lead(ethertype: Option<u16>) -> &'static str {
     match ethertype {
         None | Some(ARP) => " ",
-        Some(_) => " type ",
+        Some(_) => " ethertype ",
     }
 }
 
@@ -67,7 +67,7 @@ fn proto_part(ethertype: Option<u16>, flow: Option<Flow>) -> Part<'static> {
 
 // Returns whether T_WINDOW is among rules.
 fn names_window(rules: &[Rule]) -> bool {
-    rules.iter().any(|rule| rule.number() == 55)
+    rules.iter().any(|rule| *rule == Rule::TWindow)
 }
 
 // Returns whether a rule is one on fragments.
@@ -164,21 +164,27 @@ fn written(view: &ShownLine) -> [Part<'_>; 3] {
             only_if(view.given, Value::Number(u64::from(count))),
         ),
         shown(
-            "out",
+            "frames_out",
             " out ",
             only_if(out, Value::Frames { before, count }),
         ),
     ]
 }
 
-/// Writes the fields behind the number of the record.
+// Returns which engines made the changes of a line: those of the second are compared with IN.
+fn changes_by(second: bool) -> Part<'static> {
+    hidden("changes_by", of_text(if second { "both" } else { "first" }))
+}
+
+/// Writes the fields after the number of the record.
 pub(crate) fn put_record(text: &mut String, format: Format, view: &ShownLine) -> Put {
     put_fields(text, format, &front(view))?;
     put_fields(text, format, &packet(view))?;
     put_fields(text, format, &judged(view))?;
-    put_ended(text, format, view.entry.ended.as_slice())?;
-    put_rules(text, format, true, view.entry.rules.as_slice())?;
+    put_list(text, format, "ended", view.entry.ended.as_slice())?;
+    put_explained(text, format, view.entry.rules.as_slice())?;
     put_fields(text, format, &written(view))?;
-    put_changes(text, format, view.changes.as_slice())?;
+    put_changes(text, format, view)?;
+    put_fields(text, format, &[changes_by(view.second)])?;
     Ok(())
 }

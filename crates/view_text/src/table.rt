@@ -1,8 +1,8 @@
 //! Named values as cells of a table.
 
-use crate::part::Value;
-use crate::pieces::{Put, put_number, put_text};
+use crate::put::{Put, put_number, put_text};
 use crate::text::put_frames;
+use crate::value::Value;
 use crate::word::put_word;
 
 /// Writes a value.

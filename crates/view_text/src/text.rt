@@ -1,11 +1,12 @@
 //! Named values as text.
 
 use crate::octets::put_octets;
-use crate::part::{Part, Value};
-use crate::pieces::{Put, put_number, put_text};
+use crate::put::{Put, put_number, put_text};
+use crate::value::{Part, Value};
 use crate::word::put_word;
 
-// Writes the numbers of so many frames, behind those before them: one, or the first and the last.
+// Writes the numbers of this number of frames, after those before them: one, or the first and the
+// last.
 pub(crate) fn put_frames(text: &mut String, before: u64, count: u8) -> Put {
     put_number(text, before.saturating_add(1))?;
     if count == 1 {
@@ -41,7 +42,7 @@ fn is_shown(dash: bool, value: Value<'_>) -> bool {
     }
 }
 
-/// Writes a named value behind its lead, where it is on the line.
+/// Writes a named value after its lead, where it is on the line.
 pub(crate) fn put_part(text: &mut String, part: &Part<'_>) -> Put {
     let Some(lead) = part.lead else {
         return Ok(());

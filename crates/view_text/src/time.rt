@@ -1,6 +1,6 @@
 //! Times as RFC 3339 writes them.
 
-use crate::pieces::{Put, put_text};
+use crate::put::{Put, put_text};
 use arrayvec::ArrayString;
 use jiff_core::Timestamp;
 use jiff_fmt::temporal::DateTimePrinter;

@@ -2,15 +2,15 @@
 
 use frame_view::{Change, Flow};
 use rule_book::{Entry, Reason, Rule};
-use run_notes::NumberCount;
+use run_notes::{Clash, HostCount, NumberCount};
 
 /// The formats in which lines are printed.
 #[derive(Clone, Copy, Debug, PartialEq, Eq)]
 pub enum Format {
     Text,
-    /// An object a line (RFC 8259).
+    /// An object per line (RFC 8259).
     Json,
-    /// A row a line, with tabs between the cells.
+    /// A row per line, with tabs between the cells.
     Table,
 }
 
@@ -40,6 +40,11 @@ pub struct ShownLine {
     pub before: u64,
     /// What differs between the record and its frames, frame by frame.
     pub changes: Vec<Change>,
+    /// For each run of replaced octets among `changes`, the record that first sent the first of
+    /// them, where it is known; empty where that is not asked for.
+    pub firsts: Vec<Option<u32>>,
+    /// Octets of a fragment that differ from those held, where that is asked for and known.
+    pub clash: Option<Clash>,
 }
 
 /// What began an era, as the network's outside and inside see it.
@@ -69,7 +74,8 @@ pub struct EraView<'a> {
     pub last: u64,
     /// The number of records that belong to it.
     pub records: u64,
-    /// The number of TCP payload octets that were written inwards for its records, each copy counted.
+    /// The number of TCP payload octets that were written inwards for its records, each copy
+    /// counted.
     pub sent: u64,
     /// The number of offsets at which an octet went inwards, as the report has it. None while the
     /// era is live, and in a report of version 1.
@@ -82,7 +88,7 @@ pub struct EraView<'a> {
 
 /// How many lines have each verdict.
 #[derive(Clone, Copy, Debug, Default, PartialEq, Eq)]
-pub struct Counts {
+pub struct VerdictCounts {
     pub pass: u64,
     pub fix: u64,
     pub hold: u64,
@@ -92,9 +98,9 @@ pub struct Counts {
 /// How many lines have each verdict, by side.
 #[derive(Clone, Copy, Debug, Default, PartialEq, Eq)]
 pub struct Sides {
-    pub inward: Counts,
-    pub outward: Counts,
-    pub neither: Counts,
+    pub inward: VerdictCounts,
+    pub outward: VerdictCounts,
+    pub neither: VerdictCounts,
 }
 
 /// How many lines name a rule, by the side that the line says.
@@ -120,6 +126,17 @@ pub struct EraCounts {
     pub opened_mid: u64,
 }
 
+/// How many of the chosen records are of each class of evidence.
+#[derive(Clone, Copy, Debug, Default, PartialEq, Eq)]
+pub struct EvidenceCounts {
+    /// Octets that differ from those first sent.
+    pub contradictions: u64,
+    /// All others: some hosts may read these otherwise.
+    pub differs: u64,
+    /// Segments without payload that are dropped under T_COLD or T_FLAGS.
+    pub noise: u64,
+}
+
 /// A whole run.
 #[derive(Clone, Copy, Debug)]
 pub struct Summary<'a> {
@@ -138,4 +155,8 @@ pub struct Summary<'a> {
     /// The rules that are named, in the order of first naming.
     pub rules: &'a [RuleCount],
     pub eras: EraCounts,
+    /// The addresses outside with the most records, most first.
+    pub outside_hosts: &'a [HostCount],
+    /// The same of the addresses inside.
+    pub inside_hosts: &'a [HostCount],
 }

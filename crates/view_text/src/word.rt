@@ -2,9 +2,9 @@
 ghost use Rattle.std.specs.Prelude.{◌<◌};
 
 use crate::Opened;
-use crate::part::Word;
-use crate::pieces::{Put, put_char, put_number, put_text};
+use crate::put::{Put, put_char, put_number, put_text};
 use crate::time::put_time;
+use crate::value::Word;
 use frame_view::Made;
 use rule_book::{Reason, Verdict};
 use wire_base::{Addr, Side, protocol};
@@ -14,6 +14,7 @@ pub(crate) fn put_word(text: &mut String, word: Word<'_>) -> Put {
     match word {
         Word::Text(word) => put_text(text, word),
         Word::Address(address) => put_address(text, address),
+        Word::Decimal(number) => put_number(text, u64::from(number)),
         Word::Flags(flags) => put_flags(text, flags),
         Word::Protocol(number) => put_protocol(text, number),
         Word::Hex16(number) => put_hex16(text, number),
@@ -34,16 +35,16 @@ fn put_address(text: &mut String, address: Addr) -> Put {
     put_number(text, number % 0x100)
 }
 
-// Writes the letters of the flags that are set, `-` for none.
+// Writes the letters of the flags that are set.
 fn put_flags(text: &mut String, flags: u32) -> Put {
     if flags == 0 {
-        return put_text(text, "-");
+        return put_text(text, "none");
     }
     put_low_letters(text, flags)?;
     put_high_letters(text, flags)
 }
 
-// The letter of a flag where it is set.
+// Returns the letter of a flag where it is set.
 fn letter(flags: u32, weight: u32, name: &'static str) -> &'static str
     requires { 0 < weight }
 {

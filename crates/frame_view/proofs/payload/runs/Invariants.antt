@@ -3,7 +3,7 @@ use Rattle.frame_view.specs.Changes as changes
 use Rattle.frame_view.specs.Changes.{plain_replaced}
 use Rattle.frame_view.proofs.payload.runs.Given as goal
 
--- the runs so far, with those behind them, are all
+-- the runs so far, with those after them, are all
 abbrev pub invariant-octets : goal.invariant-octets
 invariant-octets l = record {
   all : map plain_replaced l.runs.items ++ changes.runs false (l.at + l.next) (drop l.next l.from) (drop l.next l.to)

@@ -1,9 +1,9 @@
 //! Fields in each format.
 
 use crate::json::{put_member, put_name, put_object};
-use crate::part::Part;
-use crate::pieces::{Put, put_text};
+use crate::put::{Put, between, put_text};
 use crate::table::put_cell;
+use crate::value::Part;
 use crate::{Format, text};
 use edge_io::NoMemory;
 use std::alloc::Global;
@@ -32,7 +32,7 @@ pub(crate) fn begun(
     Ok(line)
 }
 
-// Writes a field behind the first.
+// Writes a field after the first.
 fn put_field(text: &mut String, format: Format, part: &Part<'_>) -> Put {
     match format {
         Format::Text => text::put_part(text, part),
@@ -44,7 +44,7 @@ fn put_field(text: &mut String, format: Format, part: &Part<'_>) -> Put {
     }
 }
 
-/// Writes fields behind the first.
+/// Writes fields after the first.
 pub(crate) fn put_fields(text: &mut String, format: Format, parts: &[Part<'_>]) -> Put {
     for part in parts {
         put_field(text, format, part)?;
@@ -52,10 +52,50 @@ pub(crate) fn put_fields(text: &mut String, format: Format, parts: &[Part<'_>]) 
     Ok(())
 }
 
-// Writes named values as text.
+/// Writes named values as text.
 pub(crate) fn put_parts(text: &mut String, parts: &[Part<'_>]) -> Put {
     for part in parts {
         text::put_part(text, part)?;
+    }
+    Ok(())
+}
+
+/// Writes named values as an object, or as text.
+pub(crate) fn put_values(text: &mut String, format: Format, parts: &[Part<'_>]) -> Put {
+    match format {
+        Format::Json => put_object(text, parts),
+        Format::Text | Format::Table => put_parts(text, parts),
+    }
+}
+
+/// What a list is made of.
+pub(crate) trait Element {
+    /// Writes it.
+    fn put(&self, text: &mut String, format: Format) -> Put;
+}
+
+/// Writes the field of a list.
+pub(crate) fn put_list<T: Element>(
+    text: &mut String,
+    format: Format,
+    name: &str,
+    list: &[T],
+) -> Put {
+    open_list(text, format, name, list.is_empty())?;
+    put_elements(text, format, separator(format), list)?;
+    close_list(text, format)
+}
+
+/// Writes elements, with what separates them.
+pub(crate) fn put_elements<T: Element>(
+    text: &mut String,
+    format: Format,
+    separator: &'static str,
+    list: &[T],
+) -> Put {
+    for (at, element) in list.iter().enumerate() {
+        put_text(text, between(at, separator))?;
+        element.put(text, format)?;
     }
     Ok(())
 }
@@ -81,7 +121,7 @@ pub(crate) fn put_group(
     }
 }
 
-/// Writes what stands before the elements of a field, of which there are none or some.
+/// Writes what precedes the elements of a field, which has none or some.
 pub(crate) fn open_list(text: &mut String, format: Format, name: &str, empty: bool) -> Put {
     match format {
         Format::Text => Ok(()),
@@ -102,7 +142,7 @@ pub(crate) fn separator(format: Format) -> &'static str {
     }
 }
 
-/// Writes what stands behind the elements of a field.
+/// Writes what follows the elements of a field.
 pub(crate) fn close_list(text: &mut String, format: Format) -> Put {
     match format {
         Format::Json => put_text(text, "]"),

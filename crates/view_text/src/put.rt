@@ -1,4 +1,4 @@
-//! What lines are put together from.
+//! Writes texts and numbers, of which lines are made.
 ghost use Rattle.std.specs.Prelude.{◌<◌};
 
 use edge_io::NoMemory;
@@ -35,12 +35,12 @@ pub(crate) fn put_string(text: &mut String, piece: &str) -> Put {
     put_text(text, "\"")
 }
 
-/// Returns a comma, where it is wanted.
+/// Returns a comma, where it is needed.
 pub(crate) fn comma_where(wanted: bool) -> &'static str {
     if wanted { "," } else { "" }
 }
 
-/// Returns what stands before an element of a list: the separator before all but the first.
+/// Returns what precedes an element of a list: the separator before all but the first.
 pub(crate) fn between(at: usize, separator: &'static str) -> &'static str {
     if at == 0 { "" } else { separator }
 }

@@ -7,6 +7,7 @@ use wire_base::Addr;
 pub(crate) enum Word<'a> {
     Text(&'a str),
     Address(Addr),
+    Decimal(u32),
     /// The flags of a segment.
     Flags(u32),
     /// The number of a protocol.
@@ -27,9 +28,9 @@ pub(crate) enum Value<'a> {
     Mark(bool),
     Word(Word<'a>),
     Octets(&'a [u8]),
-    /// Octets behind their count.
+    /// Octets after their count.
     Counted(&'a [u8]),
-    /// The numbers of so many frames, behind those before them.
+    /// The numbers of this number of frames, after those before them.
     Frames { before: u64, count: u8 },
 }
 
@@ -48,12 +49,12 @@ pub(crate) struct Part<'a> {
     pub(crate) name: &'static str,
     /// The text before the value on a text line, which lacks a value without a lead.
     pub(crate) lead: Option<&'static str>,
-    /// It is on a text line also where it is absent.
+    /// It is on a text line even where it is absent.
     pub(crate) dash: bool,
     pub(crate) value: Value<'a>,
 }
 
-/// Returns a value that is on a text line where it is there.
+/// Returns a value that is on a text line where it is present.
 #[inline(always)]
 pub(crate) fn shown<'a>(name: &'static str, lead: &'static str, value: Value<'a>) -> Part<'a> {
     Part {
@@ -86,7 +87,7 @@ pub(crate) fn hidden<'a>(name: &'static str, value: Value<'a>) -> Part<'a> {
     }
 }
 
-/// Returns a number that may be there.
+/// Returns a number that may be present.
 pub(crate) fn number_if(number: Option<u64>) -> Value<'static> {
     match number {
         Some(number) => Value::Number(number),
