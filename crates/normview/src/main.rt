@@ -1,4 +1,5 @@
-//! The program `normview`: it opens the files that its words name, views the run that wrote them, and ends with the status.
+//! The program `normview`: it opens the files that its words name, views the run that wrote them,
+//! and ends with the status.
 #![tactic(auto)]
 
 mod texts;
@@ -6,6 +7,7 @@ mod texts;
 use edge_io::{FileSource, LineOut};
 use error_line::{Program, STANDARD_OUTPUT, Why, failed, last_line, tell};
 use run_view::{Printer, view};
+use std::alloc::AllocError;
 use std::fs::File;
 use std::io;
 use std::process::ExitCode;
@@ -22,27 +24,30 @@ fn main(rt: HostRuntime) -> ExitCode {
         Ok(words) => words,
         Err(status) => return status,
     };
-    view_files(&rt, &words)
+    match view_files(&rt, &words) {
+        Ok(status) => ExitCode::from(status),
+        Err(_) => PROGRAM.without_memory(&rt),
+    }
 }
 
-// Views the run whose files the last three words name, and returns the status. A file that cannot be
-// opened is a source whose every call fails.
-fn view_files(rt: &HostRuntime, words: &[String]) -> ExitCode {
+// Views the run whose files the last three words name, and returns the status. A file that cannot
+// be opened is a source whose every call fails.
+fn view_files(rt: &HostRuntime, words: &[String]) -> Result<u8, AllocError> {
     let (input_name, output_name, report_name) = match words {
         [.., input, output, report] => (input.as_str(), output.as_str(), report.as_str()),
         _ => ("", "", ""),
     };
-    let mut input = FileSource::opened(File::open(rt, input_name));
-    let mut output = FileSource::opened(File::open(rt, output_name));
-    let mut report = FileSource::opened(File::open(rt, report_name));
-    let mut out = Printer::over(rt.alloc(), LineOut::over(Some(rt.stdout())));
+    let mut input = source_of(rt, input_name)?;
+    let mut output = source_of(rt, output_name)?;
+    let mut report = source_of(rt, report_name)?;
+    let mut out = printer_of(rt)?;
     let status = view(
         rt.alloc(),
         words,
-        &mut input,
-        &mut output,
-        &mut report,
-        &mut out,
+        &mut *input,
+        &mut *output,
+        &mut *report,
+        &mut *out,
     );
     let errors = [
         input.last_error(),
@@ -54,7 +59,21 @@ fn view_files(rt: &HostRuntime, words: &[String]) -> ExitCode {
     if let Some(why) = why(status, stop, input_name, output_name, report_name, &errors) {
         tell(rt, PROGRAM.name, &why);
     }
-    ExitCode::from(status)
+    Ok(status)
+}
+
+// Returns the source of this file, on the heap. Not inlined: its frame has a buffer, and the view
+// goes on without it.
+#[inline(never)]
+fn source_of(rt: &HostRuntime, name: &str) -> Result<Box<FileSource>, AllocError> {
+    Ok(Box::new(rt.alloc(), FileSource::opened(File::open(rt, name)))?)
+}
+
+// Returns the printer to standard output, as `source_of` returns the source.
+#[inline(never)]
+fn printer_of(rt: &HostRuntime) -> Result<Box<Printer<LineOut>>, AllocError> {
+    let out = LineOut::over(Some(rt.stdout()));
+    Ok(Box::new(rt.alloc(), Printer::over(rt.alloc(), out))?)
 }
 
 // Returns why there is no answer at this status, from the last line of standard output and the last

@@ -1,4 +1,5 @@
--- The audit of the capture and the report that a finished run wrote says yes: the words, the lines, the frames and the status.
+-- The audit of the capture and the report that a finished run wrote answers yes: the words, the
+-- lines, the frames and the status.
 use Rattle.std.proofs.Common.{◌≡◌, ◌⊎◌, inl, inr, ℕ, ◌+◌, ◌*◌, ◌^◌, ◌<◌, ◌≤◌, ◌&&◌, Bool, true, false, cond, List, [], ◌∷◌, ◌++◌, length, map, reverse, flat_map, Option, Some, None, refl, sym, ap, ap₂, ◌∙◌, subst, arith, leb-true, decimal, nat_le, nat_lt}
 use Rattle.std.specs.List.{AllByRecursion}
 use Rattle.std.proofs.lemmas.List.{append_cancel_left, length-append, length-map, reverse-append}

@@ -1,7 +1,8 @@
 pub mod ReadBack
 pub mod Audits
 pub mod Traces
+mod Passed
 pub mod Unsided
 pub mod Views
-pub mod Heads
+pub mod Evidence
 pub mod Meeting

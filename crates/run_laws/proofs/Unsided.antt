@@ -1,4 +1,5 @@
--- A capture that is read by the name of the inside interface is read without it, too, as the same records without sides.
+-- A capture that is read by the name of the inside interface is read without it, too, as the same
+-- records without sides.
 use Rattle.std.proofs.Common.{◌≡◌, ℕ, ◌*◌, ◌+◌, ◌-◌, ◌==◌, ◌/◌, ◌^◌, Bool, true, false, not, List, [], ◌∷◌, length, map, take, drop, Option, Some, None, Result, Ok, Err, refl, sym, ap, ap₂, ◌∙◌, subst, nat_lt, option_map, slice_get, if◌then◌else◌}
 use Rattle.std.proofs.lemmas.List.{length-map, map-append}
 use Rattle.std.proofs.lemmas.Option.{slice_get-map}

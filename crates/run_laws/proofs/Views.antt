@@ -1,5 +1,7 @@
--- The capture that a finished run read, and the two files that it wrote, have one item for each line of the report, so they are viewed.
-use Rattle.std.proofs.Common.{◌≡◌, ◌⊎◌, inl, inr, ℕ, ◌+◌, ◌-◌, ◌^◌, ◌≤◌, List, [], ◌∷◌, ◌++◌, length, map, take, drop, reverse, Option, Some, None, refl, sym, ap, ◌∙◌, subst, arith, append_assoc, append-nil}
+-- The capture that a finished run read, and the two files that it wrote, have one item for each
+-- line of the report, so they are viewed.
+use Rattle.std.proofs.Common.{◌≡◌, ◌⊎◌, inl, inr, ℕ, ◌+◌, ◌-◌, ◌^◌, ◌≤◌, ◌&&◌, true, List, [], ◌∷◌, ◌++◌, length, map, take, drop, reverse, Option, Some, None, refl, sym, ap, ◌∙◌, subst, arith, append_assoc, append-nil}
+use Rattle.std.specs.List.{AllByRecursion}
 use Rattle.std.proofs.lemmas.List.{append_cancel_left, length-append, length-drop, length-map, length-reverse, length-take-le, map-append, reverse-append, take-append-drop}
 use Rattle.wire_base.specs.declared.address.Link.{Link}
 use Rattle.pcap_file.specs.declared.head.Head.{Head}
@@ -8,8 +10,9 @@ use Rattle.pcap_file.specs.Capture.{IsCapture}
 use Rattle.capture_input.specs.Inputs.{IsInput}
 use Rattle.rule_book.specs.declared.last.Last.TheVariants.{End}
 use Rattle.rule_book.specs.Text.{entry_text, last_text}
+use Rattle.rule_book.specs.declared.entry.Verdict.TheVariants as verdicts
 use Rattle.norm_settings.specs.Settings.{AreInRange, PlainSettings}
-use Rattle.norm_engine.specs.Items.{Item}
+use Rattle.norm_engine.specs.Items.{Item, packets}
 use Rattle.norm_engine.specs.Laws.{IsSound}
 use Rattle.both_sides.specs.Cut.{item_written, written}
 use Rattle.both_sides.specs.Frames.{frame_count}
@@ -20,8 +23,9 @@ use Rattle.both_sides.specs.Traces.{behind, mirrored, records_for, records_of}
 use Rattle.bridge_run.specs.Theorem.{Normalized}
 use Rattle.run_audit.specs.Lawful.{frames_written as frames_of_trace, record_with}
 use Rattle.run_view.specs.Forms.{heading}
-use Rattle.run_view.specs.Items.{AreItems, IsOfNewest, end_text, firsts, frames_of, lines_of, lines_text, owed_of, packets_in, packets_of, seconds}
+use Rattle.run_view.specs.Items.{AreItems, IsOfNewest, end_text, firsts, frames_of, is_only_copy, lines_of, lines_text, owed_of, packets_in, packets_of, seconds}
 use Rattle.run_view.specs.Items as view
+use Rattle.run_view.specs.Judged.{is_pass}
 use Rattle.run_view.specs.Laws.{AreOfARun, HasFiles, NothingFails}
 use Rattle.run_view.specs.Runs.{FaultCounts, Moment}
 use Rattle.run_view.specs.Viewed.{IsToItsEnd, Stopped}
@@ -29,25 +33,31 @@ use Rattle.run_view.specs.Words.{asked_in}
 use Rattle.run_view.specs.declared.words.Asked.{Asked}
 use Rattle.run_view.specs.declared.form.Form.{Form}
 use Rattle.run_view.specs.declared.form.Form.TheVariants.{Both, Version2}
-use Rattle.run_laws.proofs.Heads.{heads_one}
+use Rattle.run_view.proofs.Heads.{heads_one}
 use Rattle.run_laws.specs.ReadBack.{record_of, records_put}
 use Rattle.run_laws.specs.View.{FitsACapture, RunsAreViewedWhole, unsided}
 use Rattle.run_laws.proofs.Unsided.{input_unsided}
-use Rattle.run_laws.proofs.Traces.{AreGood, ViewLaws, frames_few, good, good_behind, good_written}
+use Rattle.run_laws.proofs.Passed.{both_pass, hands_on, only_copy, pass_is}
+use Rattle.run_laws.proofs.Traces.{AreGood, IsUnchanged, ViewLaws, frames_few, good, good_behind, good_written}
 
 -- ---- by one engine
 
-frames_with : Packet → List (List ℕ) → List Packet
+pub frames_with : Packet → List (List ℕ) → List Packet
 frames_with r frames = reverse (map (record_with r) frames)
 
 with_long : (r : Packet) (frames : List (List ℕ)) → length (frames_with r frames) ≡ length frames
 unfolding frames_with
 with_long r frames = length-reverse (map (record_with r) frames) ∙ length-map frames (record_with r)
 
-abbrev line_one : Item → view.Item
+-- the frame of a record that passed is a copy of it
+copied : (r : Packet) (frames : List (List ℕ)) → frames ≡ r.octets ∷ [] → is_only_copy r.octets r.seconds r.fraction (frames_with r frames) ≡ true
+unfolding frames_with
+copied r frames same = only_copy r frames same
+
+abbrev pub line_one : Item → view.Item
 line_one item = record { packet = unsided item.packet; entry = item.entry; frames = frames_with item.packet item.frames; first = None; owed = 0 }
 
-abbrev items_one : List Item → List view.Item
+abbrev pub items_one : List Item → List view.Item
 items_one [] = []
 items_one (item ∷ older) = line_one item ∷ items_one older
 
@@ -71,6 +81,7 @@ are_one (item ∷ older) good = (
       frames = with_long item.packet item.frames ∙ sym good.0.packets;
       owes = refl;
     });
+    unchanged = λ passed. copied item.packet item.frames (good.0.unchanged (pass_is item.entry.verdict passed));
   },
   are_one older good.1,
 )
@@ -96,7 +107,7 @@ shows_one settings link (item ∷ older) =
 
 -- ---- by two engines
 
--- the lines of the second engine for a record, before so many others
+-- the lines of the second engine for a record, before this number of others
 abbrev lines_two : Item → (owed : ℕ) → List Item → List view.Item
 lines_two item owed [] = []
 lines_two item owed (answer ∷ answers) =
@@ -112,7 +123,7 @@ items_two [] mirror = []
 items_two (item ∷ older) mirror =
     lines_two item 0 (take (length item.frames) mirror) ++ line_first item ∷ items_two older (drop (length item.frames) mirror)
 
--- lines of the second engine behind others
+-- lines of the second engine after others
 module _ (item : Item) (rest : List view.Item) where
   owes_on : (owed : ℕ) (answers : List Item) → owed + length answers ≡ owed_of rest → owed_of (lines_two item owed answers ++ rest) ≡ owed
   owes_on owed [] same = omega (arith, same)
@@ -131,11 +142,22 @@ module _ (item : Item) (rest : List view.Item) where
   newest_on owed [] line packet first of = of
   newest_on owed (answer ∷ answers) line packet first of = (packet, first)
 
-  are_on : (owed : ℕ) (answers back : List Item) → AreGood (answers ++ back) → owed + length answers ≡ owed_of rest
+  -- both engines passed the record
+  answer_copied : (answer : Item) → IsUnchanged answer → (item.entry.verdict ≡ verdicts.Pass → answer.packet.octets ≡ item.packet.octets)
+      → (is_pass item.entry.verdict && is_pass answer.entry.verdict) ≡ true
+      → is_only_copy item.packet.octets item.packet.seconds item.packet.fraction (frames_with item.packet answer.frames) ≡ true
+  answer_copied answer unchanged handed passed =
+      let both = both_pass (is_pass item.entry.verdict) (is_pass answer.entry.verdict) passed in
+      copied item.packet answer.frames
+      (unchanged (pass_is answer.entry.verdict both.1) ∙ ap (λ o. o ∷ []) (handed (pass_is item.entry.verdict both.0)))
+
+  are_on : (owed : ℕ) (answers back : List Item) → AreGood (answers ++ back)
+      → (item.entry.verdict ≡ verdicts.Pass → AllByRecursion (λ (answer : Item). answer.packet.octets ≡ item.packet.octets) answers)
+      → owed + length answers ≡ owed_of rest
       → ((line : view.Item) → line.packet ≡ unsided item.packet → line.first ≡ Some item.entry → IsOfNewest rest line) → length (seconds rest) ≡ length back
       → AreItems Both rest → AreItems Both (lines_two item owed answers ++ rest)
-  are_on owed [] back good same newest count are = are
-  are_on owed (answer ∷ answers) back good same newest count are = (
+  are_on owed [] back good handed same newest count are = are
+  are_on owed (answer ∷ answers) back good handed same newest count are = (
     record {
       fits = good.0.fits;
       turn = inr (record {
@@ -144,8 +166,9 @@ module _ (item : Item) (rest : List view.Item) where
         number = omega (arith, good.0.number, length-append answers back, seconds_on (owed + 1) answers, count);
         frames = with_long item.packet answer.frames ∙ sym good.0.packets;
       });
+      unchanged = answer_copied answer good.0.unchanged (λ pass. (handed pass).0);
     },
-    are_on (owed + 1) answers back good.1 (omega (arith, same)) newest count are,
+    are_on (owed + 1) answers back good.1 (λ pass. (handed pass).1) (omega (arith, same)) newest count are,
   )
 
   frames_on : (owed : ℕ) (answers : List Item)
@@ -222,15 +245,17 @@ two_seconds (item ∷ older) mirror many =
       many,
     )
 
-are_two : (trace mirror : List Item) → length mirror ≡ frames_in trace → AreGood trace → AreGood mirror → AreItems Both (items_two trace mirror)
+are_two : (trace mirror : List Item) → length mirror ≡ frames_in trace → packets mirror ≡ records_of trace → AreGood trace → AreGood mirror
+    → AreItems Both (items_two trace mirror)
 unfolding frames_in
-are_two [] mirror many good answers = tt
-are_two (item ∷ older) mirror many good answers =
+are_two [] mirror many handed good answers = tt
+are_two (item ∷ older) mirror many handed good answers =
+    let hands = hands_on item older mirror handed good.0.unchanged in
     let front = take (length item.frames) mirror in
     let back = drop (length item.frames) mirror in
     let both : AreGood (front ++ back) = subst AreGood (sym (take-append-drop (length item.frames) mirror)) answers in
     let left = left_long item older mirror many in
-    are_on item (line_first item ∷ items_two older back) 0 front back both (omega (arith, taken_long item older mirror many)) (λ line packet first. (packet, first))
+    are_on item (line_first item ∷ items_two older back) 0 front back both hands.passed (omega (arith, taken_long item older mirror many)) (λ line packet first. (packet, first))
     (two_seconds older back left) (
       record {
         fits = good.0.fits;
@@ -241,8 +266,9 @@ are_two (item ∷ older) mirror many good answers =
           frames = refl;
           owes = sym good.0.packets;
         });
+        unchanged = λ passed. absurd (cc);
       },
-      are_two older back left good.1 (good_behind front back both),
+      are_two older back left hands.rest good.1 (good_behind front back both),
     )
 
 shows_two : (trace mirror : List Item) → Shows (two trace mirror) (puts_by_two trace mirror) (items_two trace mirror)
@@ -263,6 +289,20 @@ shows_two (item ∷ older) mirror =
 
 -- ---- the files of the run
 
+-- its items, and the form of its report
+abbrev pub run_items : PlainSettings → Link → RunTrace → List view.Item
+run_items settings link (one trace) = items_one (written settings link trace)
+run_items settings link (two trace mirror) = items_two trace mirror
+
+abbrev pub run_form : RunTrace → Form
+run_form (one trace) = Version2
+run_form (two trace mirror) = Both
+
+pub record IsOf (settings : PlainSettings) (link : Link) (trace : RunTrace) {input capture report : List ℕ} (run : AreOfARun input capture report) : Type 0 where
+  pub items_are : run.items ≡ run_items settings link trace
+  pub form_is : run.form ≡ run_form trace
+  pub link_is : run.head.link ≡ link
+
 put_long : (outs : List Put) → length (records_put outs) ≡ count_put outs
 put_long [] = refl
 put_long (put ∷ older) = omega (arith, long, put_long older) where
@@ -278,17 +318,17 @@ packets_long (item ∷ older) = omega (arith, packets_long older)
 module _ (laws : ViewLaws) (settings : PlainSettings) (source' : Option (List ℕ)) (input held capture told report : List ℕ) (range : AreInRange settings)
     (done : Normalized settings (Some input) source' (Some held) (Some (held ++ capture)) (Some told) (Some (told ++ report)))
     (small : FitsACapture settings done.head.link done.run) where
-  -- the files are those of a run of these records
-  abbrev Whole : Type 0
-  Whole = (run : AreOfARun input capture report) × (packets_of run.items ≡ map unsided (run_packets done.run))
+  -- the files are those of a run of these records, with the items of its trace
+  abbrev pub Whole : Type 0
+  Whole = (run : AreOfARun input capture report) × (packets_of run.items ≡ map unsided (run_packets done.run)) × IsOf settings done.head.link done.run run
 
   abbrev outs : List Put
   outs = puts settings done.head.link done.run
 
   files : (form : Form) (items : List view.Item) → run_heading settings.both ≡ heading form → AreItems form items → owed_of items ≡ 0
-      → Shows done.run outs items
+      → Shows done.run outs items → items ≡ run_items settings done.head.link done.run → form ≡ run_form done.run
       → Whole
-  files form items first are none shows =
+  files form items first are none shows items_are form_is =
       let whole : IsInput None input done.head (map unsided (run_packets done.run)) =
       input_unsided settings.inside input done.head (run_packets done.run) done.whole in
       let back = laws.read_back settings (Some input) source' (Some told) (Some (told ++ report)) held capture done in
@@ -311,6 +351,7 @@ module _ (laws : ViewLaws) (settings : PlainSettings) (source' : Option (List �
           lines = lines ∙ (λ i. (first i ++ sym shows.text i) ++ last_text (End (sym firsts_are i) (sym count_is i)));
         },
         shows.records,
+        record { items_are = items_are; form_is = form_is; link_is = refl },
       )
 
   by_run : (run : RunTrace) → done.run ≡ run → LawfulRun settings done.head.link run → RunHasOctets settings run
@@ -324,6 +365,7 @@ module _ (laws : ViewLaws) (settings : PlainSettings) (source' : Option (List �
       let ts = written settings done.head.link trace in
       files Version2 (items_one ts) (ap run_heading lawful.0) (are_one ts (good_written laws settings done.head.link range trace sound octets.1 fits)) (one_owes ts)
       (subst (λ (r : RunTrace). Shows r (puts settings done.head.link r) (items_one ts)) (sym is) (shows_one settings done.head.link trace))
+      (ap (run_items settings done.head.link) (sym is)) (ap run_form (sym is))
   by_run (two trace mirror) is lawful octets records frames =
       let link = done.head.link in
       let front : IsSound settings link trace = record { hops = range.hops; octets = octets.0; lawful = lawful.1.first } in
@@ -339,15 +381,16 @@ module _ (laws : ViewLaws) (settings : PlainSettings) (source' : Option (List �
       let others =
       laws.fit (mirrored settings) link mirror back (omega (arith, counted, all, frames)) (omega (arith, mirrors, answers, some, long, records)) in
       files Both (items_two trace mirror) (ap run_heading lawful.0)
-      (are_two trace mirror mirrors (good laws settings link trace front fits) (good laws (mirrored settings) link mirror back others))
+      (are_two trace mirror mirrors lawful.1.handed (good laws settings link trace front fits) (good laws (mirrored settings) link mirror back others))
       (two_owes trace mirror mirrors) (subst (λ (r : RunTrace). Shows r (puts settings link r) (items_two trace mirror)) (sym is) (shows_two trace mirror))
+      (ap (run_items settings link) (sym is)) (ap run_form (sym is))
     where
       mirror_count : (items : List Item) → length (frames_of_trace items) ≡ frame_count items
       mirror_count [] = refl
       mirror_count (item ∷ older) =
           omega (arith, length-append (reverse item.frames) (frames_of_trace older), length-reverse item.frames, mirror_count older)
 
-  all_files : Whole
+  pub all_files : Whole
   all_files = by_run done.run refl done.lawful done.octets small.records small.frames
 
 pub runs_viewed_whole : ViewLaws → RunsAreViewedWhole

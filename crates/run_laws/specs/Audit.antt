@@ -16,8 +16,9 @@ pub record NoneRose (capture report : Seen) (before now : ℕ) : Type 0 where
   pub of_report : Rose report.before report.now → ⊥
   pub of_output : Rose before now → ⊥
 
--- An audit of these words and sources says yes, with this number of frames: this answer holds, and no other that depends on them alone. If no count of faults
--- rises, an audit returns 0, or 8 if memory could not be allocated.
+-- An audit of these words and sources answers yes, with this number of frames: this answer holds,
+-- and no other that depends on them alone. If no count of faults rises, an audit returns 0, or 8 if
+-- memory could not be allocated.
 pub record IsAuditedYes (words : List (List ℕ)) (capture report : Seen) (frames : ℕ) : Type 0 where
   pub eras : ℕ
   pub says : Says words capture report (Yes eras frames)
@@ -25,8 +26,9 @@ pub record IsAuditedYes (words : List (List ℕ)) (capture report : Seen) (frame
   pub returns : (old new : Option (List ℕ)) (before now status : ℕ) → TellsExactly words capture report old new before now status → NoneRose capture report before now
       → (status ≡ 0) ⊎ (status ≡ 8)
 
--- This holds of the two files that a finished run by one engine without an MTU wrote, after what they held before. The audit is asked for as many routers as
--- the run, and the report has at most the octets that an audit reads. Nothing is asked of the run's own capture.
+-- This holds for the two files that a finished run by one engine without an MTU wrote, after what
+-- they held before. The audit is asked for as many routers as the run, and the report has at most
+-- the octets that an audit reads. Nothing is asked of the run's own capture.
 abbrev pub RunsAreAuditedYes : Type 0
 RunsAreAuditedYes =
     (settings : PlainSettings) (source source' : Option (List ℕ)) (held capture told report : List ℕ) → settings.both ≡ false → settings.mtu ≡ None

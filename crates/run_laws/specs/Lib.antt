@@ -1,4 +1,5 @@
 pub mod ReadBack
 pub mod Audit
 pub mod View
+pub mod Evidence
 pub mod Meeting

@@ -1,4 +1,5 @@
--- Any two receivers of what a finished run wrote inwards, each from an offset of its own (this project's profile).
+-- Any two receivers of what a finished run wrote inwards, each from its own offset (this project's
+-- profile).
 use Rattle.std.specs.Prelude.{◌≡◌, ℕ, Bool, List, ℤ, Option, Some}
 use Rattle.wire_base.specs.declared.address.Link.{Link}
 use Rattle.norm_settings.specs.Settings.{PlainSettings}
@@ -14,8 +15,10 @@ use Rattle.both_sides.specs.Cut.{places_written, written}
 use Rattle.both_sides.specs.Runs.{RunTrace, one, two}
 use Rattle.bridge_run.specs.Theorem.{Normalized}
 
--- What two receivers of the family read meets: they have the same octet wherever both have read, none has one at or past the offset at which the other has ended,
--- and two that have ended did so at one offset. Each starts at an offset of its own, and any of the frames reach it, each in time, how often and in which order.
+-- What two receivers of the family read meets. They have the same octet wherever both have read.
+-- None has one at or past the offset at which the other has ended, and two that have ended did so
+-- at one offset. Each starts at its own offset, and any of the frames reach it, each in time, how
+-- often and in which order.
 abbrev pub AnyTwoMeet : (hops base : ℕ) (places : List ℤ) (frames : List (List ℕ)) → Type 0
 AnyTwoMeet hops base places frames =
     (here there : Member) (start from : ℕ) (schedule order stream seen : List ℕ) (ended over : Bool) →
@@ -25,13 +28,13 @@ AnyTwoMeet hops base places frames =
     DeliversInTime places there.distance base from frames order seen over →
     Meet start stream ended from seen over
 
--- this holds of the frames of each era of a trace whose base is fixed
+-- this holds for the frames of each era of a trace whose base is fixed
 abbrev pub TwoMeet : (hops : ℕ) → Link → List Item → Type 0
 TwoMeet hops link trace =
     (era base : ℕ) → let sent = sent_in link trace in
     base_of (written_in era sent) ≡ Some base → AnyTwoMeet hops base (inward_places era base sent) (inward_packets era sent)
 
--- and of the packets that are written of it, cut for an MTU if there is one
+-- and for the packets that are written of it, cut for an MTU if there is one
 abbrev pub TwoMeetAsWritten : PlainSettings → Link → List Item → Type 0
 TwoMeetAsWritten settings link trace =
     (era base : ℕ) → let sent = sent_in link trace in
@@ -39,12 +42,12 @@ TwoMeetAsWritten settings link trace =
     AnyTwoMeet settings.hops base (places_written settings.mtu (inward_places era base sent) (inward_packets era sent))
     (inward_packets era (sent_in link (written settings link trace)))
 
--- of what a run wrote, on the side of each engine
+-- for what a run wrote, on the side of each engine
 abbrev pub RunTwoMeet : PlainSettings → Link → RunTrace → Type 0
 RunTwoMeet settings link (one trace) = TwoMeetAsWritten settings link trace
 RunTwoMeet settings link (two trace mirror) = TwoMeet settings.hops link trace × TwoMeet settings.hops link mirror
 
--- This holds of each finished run.
+-- This holds for each finished run.
 abbrev pub ReceiversOfRunsMeet : Type 0
 ReceiversOfRunsMeet =
     (settings : PlainSettings) (source source' capture capture' report report' : Option (List ℕ))

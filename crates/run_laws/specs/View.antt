@@ -13,7 +13,8 @@ use Rattle.run_view.specs.Viewed.{IsToItsEnd, Stopped}
 use Rattle.run_view.specs.Words.{asked_in}
 use Rattle.run_view.specs.declared.words.Asked.{Asked}
 
--- the run has at most 2^31 - 1 records, and wrote at most 2^32 - 1 frames, as many as a capture may have
+-- the run has at most 2^31 - 1 records, and wrote at most 2^32 - 1 frames, as many as a capture may
+-- have
 pub record FitsACapture (settings : PlainSettings) (link : Link) (run : RunTrace) : Type 0 where
   pub records : length (packets_of run) ≤ 2 ^ 31 - 1
   pub frames : count_put (puts settings link run) ≤ 2 ^ 32 - 1
@@ -22,8 +23,8 @@ pub record FitsACapture (settings : PlainSettings) (link : Link) (run : RunTrace
 abbrev pub unsided : Packet → Packet
 unsided packet = record packet { side = None }
 
--- Three files are those of a finished run of these records, and a view of them returns 0 or 10, or 8 if memory could not be allocated, if its words are
--- accepted and nothing fails.
+-- Three files are those of a finished run of these records. A view of them, if its words are
+-- accepted and nothing fails, returns 0, 10 or 11, or 8 if memory could not be allocated.
 pub record IsViewed (input output report : List ℕ) (records : List Packet) : Type 0 where
   pub files : AreOfARun input output report
   pub records_are : item_packets files.items ≡ records
@@ -31,8 +32,10 @@ pub record IsViewed (input output report : List ℕ) (records : List Packet) : T
       → HasFiles before input output report
       → NothingFails before now → IsToItsEnd status ⊎ Stopped words before now status → IsToItsEnd status ⊎ (status ≡ 8)
 
--- This holds of the capture that a finished run read and of the two files that it wrote, after what they held before: by one engine, with an MTU or without,
--- and by two. Where an inside interface is named, the view reads the same records without sides. The settings are in their ranges.
+-- This holds for the capture that a finished run read and for the two files that it wrote, after
+-- what they held before: by one engine, with an MTU or without, and by two. Where an inside
+-- interface is named, the view reads the same records without sides. The settings are in their
+-- ranges.
 abbrev pub RunsAreViewedWhole : Type 0
 RunsAreViewedWhole =
     (settings : PlainSettings) (source' : Option (List ℕ)) (input held capture told report : List ℕ) → AreInRange settings

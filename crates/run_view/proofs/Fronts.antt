@@ -152,7 +152,7 @@ heading_short Both = omega arith
 pub heading_front : (octets rest : List ℕ) (form : Form) → octets ≡ heading form ++ rest → front_line 400 octets ≡ heading form
 heading_front octets rest form is = ap (front_line 400) is ∙ front_is (heading form) rest (heading_is_line form) (heading_short form)
 
--- first lines are lengths apart, or differ in the octet behind `norm `
+-- first lines are lengths apart, or differ in the octet after `norm `
 pub heading_one : (one other : Form) → heading one ≡ heading other → one ≡ other
 heading_one Version1 Version1 same = refl
 heading_one Version1 Version2 same = absurd (omega (arith, ap (λ (l : List ℕ). get_or l 5 0) same))

@@ -12,7 +12,7 @@ use Rattle.pcapng_file.proofs.Sections.{behind_on, links_stay}
 use Rattle.capture_input.specs.Inputs.{BeginsWith, IsHeadOf, Walk, blocks, records}
 use Rattle.capture_input.proofs.Inputs.{accepted, go_on, one_kind}
 
--- a link that is known behind some blocks is known behind more
+-- a link that is known after some blocks is known after more
 link_on : (octets : List ℕ) (ps qs : List Step) (r t : List ℕ) → Walks None no_section octets ps r → Walks None no_section octets qs t
     → length ps ≤ length qs → (link : Link) → (behind no_section ps).link ≡ Some link → (behind no_section qs).link ≡ Some link
 link_on octets ps qs r t p q few link known =

@@ -1,14 +1,18 @@
+mod Accepted
 mod Commas
 mod Ending
 mod Finished
 mod Frames
 mod Fronts
-mod Heads
+pub mod Heads
 mod LineTaken
 mod Lining
 mod NextLine
 mod NoStops
-mod Numbered
+pub mod Numbered
+mod Oldest
+mod OneRun
+mod SameItems
 mod OtherLines
 mod Records
 mod Results

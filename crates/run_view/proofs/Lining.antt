@@ -7,8 +7,8 @@ use Rattle.std.specs.Io.KnownBytes.{Consumes, IsAtEnd, Keeps, prepend_known}
 use Rattle.std.proofs.lemmas.List.{drop-drop, length-append, length-drop, length-take, length-take-le, take-append-le, take-take, take_at, take_min}
 use Rattle.std.proofs.Math.Seq.{take-add, take-append-add}
 use Rattle.edge_io.specs.Octets.{TakesFewer}
-use Rattle.run_view.specs.Ahead.{GoesOn, TookLine}
-use Rattle.run_view.specs.Gives.{IsSomeOctet}
+use Rattle.run_view.specs.ReadAhead.{GoesOn, TookLine}
+use Rattle.run_view.specs.Contents.{IsSomeOctet}
 use Rattle.run_view.specs.Lines.{front_line}
 
 -- the octet is a line feed
@@ -89,7 +89,7 @@ place_or place len within = by (ltb place len) refl where
   by true less = refl
   by false less = omega (arith, ltb-false place len less)
 
--- where enough octets are there, the front line is among them
+-- where enough octets are present, the front line is among them
 front_enough : (room : ℕ) (octets more : List ℕ) → room ≤ length octets → front_line room (octets ++ more) ≡ front_line room octets
 front_enough zero octets more enough = refl
 front_enough (suc room) [] more enough = absurd (omega arith)
@@ -108,7 +108,7 @@ enough_ahead : (start filled ahead : ℕ) (left : Option (List ℕ)) → filled 
 enough_ahead start filled ahead left long (inl many) = inl (omega arith)
 enough_ahead start filled ahead left long (inr end) = inr end
 
--- the first octets of a range, and those behind them
+-- the first octets of a range, and those after them
 range_parts : (xs : List ℕ) (start end count : ℕ) → start + count ≤ end
     → slice_range xs start end ≡ take count (drop start xs) ++ slice_range xs (start + count) end
 range_parts xs start end count fits =
@@ -168,7 +168,7 @@ goes_by (octet ∷ ahead) start filled before left long kept enough =
     let some : nat_eq (length (octet ∷ ahead)) 0 ≡ false = grind (arith, nat_tests) in
     subst B (sym some) (some_left before _ kept (some_ahead (octet ∷ ahead) left (omega arith)))
 
--- octets that were read behind those that were read ahead, which moved to the front
+-- octets that were read after those that were read ahead, which moved to the front
 front_grows : (old got post : List ℕ) (count more : ℕ) → count ≤ length old → more ≤ length got
     → take (count + more) (take count old ++ (got ++ post)) ≡ take count old ++ take more got
 front_grows old got post count more a b =

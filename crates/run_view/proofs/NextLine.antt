@@ -8,33 +8,33 @@ use Rattle.rule_book.specs.Entries.{PlainEntry}
 use Rattle.rule_book.specs.Reports.{IsEntryOf}
 use Rattle.run_view.specs.declared.line.Lines.{Lines}
 use Rattle.run_view.specs.declared.show.Printing.{Printing}
-use Rattle.run_view.specs.declared.told.Turn.{Turn}
+use Rattle.run_view.specs.declared.turn.Turn.{Turn}
 use Rattle.run_view.specs.declared.viewer.Viewer.{Viewer}
-use Rattle.run_view.specs.Ahead.{left_in}
+use Rattle.run_view.specs.ReadAhead.{left_in}
 use Rattle.run_view.specs.Events.{Event, Shows}
-use Rattle.run_view.specs.Gives.{HasNextLine, ToldNext}
+use Rattle.run_view.specs.Contents.{HasNextLine, ToldNext}
 use Rattle.run_view.proofs.ReportNext.{IsNoNext}
 use Rattle.run_view.specs.Progress.{Going}
 use Rattle.run_view.specs.Forms.{version_of}
 use Rattle.run_view.specs.Items.{Item, Line, line_by, line_of, lines_of, lines_text, text_by, turn_at, turn_of, waits}
-use Rattle.run_view.specs.SoFar.{Ends, HoldsNewest, MayTake, SoFar, Taken, WentOn, ends_of, lines_in, turn_in}
-use Rattle.run_view.specs.Shows.{due_event}
+use Rattle.run_view.specs.ViewerAt.{Ends, HoldsNewest, MayTake, ViewerAt, Taken, WentOn, ends_of, lines_in, turn_in}
+use Rattle.run_view.specs.ShownLines.{due_event}
 use Rattle.run_view.specs.Runs.{AreNoRest, sources_of}
 use Rattle.run_view.proofs.Finished.{Told, no_line}
 
--- where the next line stands
-pub turn_is : (viewer : Viewer) (head : Head) (before now : Ends) (items : List Item) → SoFar viewer head before now items
+-- the position of the next line
+pub turn_is : (viewer : Viewer) (head : Head) (before now : Ends) (items : List Item) → ViewerAt viewer head before now items
     → turn_in viewer ≡ turn_of items
 turn_is viewer head before now items so_far = λ i. turn_at (so_far.owed i) (so_far.count i) (so_far.second_count i) (so_far.frame_count i)
 
 -- a line is taken whatever was printed before it
 abbrev pub Takes : (old new : Viewer) (head : Head) (read written read_now written_now : Option (List ℕ)) → PlainEntry → Type 0
 Takes old new head read written read_now written_now entry =
-    (before : Ends) (shown : Option (List Event)) (items : List Item) → SoFar old head before (ends_of read written shown) items
+    (before : Ends) (shown : Option (List Event)) (items : List Item) → ViewerAt old head before (ends_of read written shown) items
     → IsEntryOf (version_of old.form) entry
     → entry.number ≡ (turn_in old).done + 1 → Taken new head before (ends_of read_now written_now shown) items (line_by (turn_in old).second entry)
 
--- the report told the line of an item
+-- the known report has the line of an item
 line_told : (report left next : Option (List ℕ)) (version : ℕ) (turn : Turn) (entry : PlainEntry) (items : List Item) (item : Item)
     → line_of item ≡ line_by turn.second entry
     → Consumes report left (lines_text (lines_of items)) → ToldNext version turn left next entry
@@ -43,11 +43,11 @@ line_told report left next version turn entry items item is before told =
     let E : Line → Type 0 = λ l. Consumes report next (lines_text (lines_of items) ++ text_by l.second l.entry) in
     subst E (sym is) (Consumes-trans report left next (lines_text (lines_of items)) (text_by turn.second entry) before told.taken)
 
--- what was due is no more
+-- the record that was due is not due any more
 due_taken : (viewer : Viewer) (printing : Printing) (head : Head) (before now : Ends) (items : List Item) → printing ≡ record viewer.printing { due = None }
-    → SoFar viewer head before now items → SoFar (record viewer { printing = printing }) head before now items
+    → ViewerAt viewer head before now items → ViewerAt (record viewer { printing = printing }) head before now items
 due_taken viewer printing head before now items is so_far =
-    let P : Printing → Type 0 = λ p. SoFar (record viewer { printing = p }) head before now items in
+    let P : Printing → Type 0 = λ p. ViewerAt (record viewer { printing = p }) head before now items in
     subst P (sym is)
     (record {
       are = so_far.are;
@@ -69,7 +69,7 @@ due_taken viewer printing head before now items is so_far =
       by [] newest = tt
       by (item ∷ older) newest = newest
 
--- a line more was taken and shown, and the report told it
+-- a line more was taken and shown, and the known report has it
 pub going_on : (old new : Viewer) (head : Head) (before mid : Ends) (read written : Option (List ℕ)) (shown : Option (List Event)) (report left next : Option (List ℕ))
     (entry : PlainEntry) (printing : Printing)
     → Takes old new head mid.read mid.written read written entry → Shows mid.shown shown (due_event new.printing)
@@ -86,13 +86,13 @@ going_on old new head before mid read written shown report left next entry print
       told = line_told report left next (version_of old.form) (turn_in old) entry going.items taken.item taken.line_is going.told told;
     }
 
--- what the sources told so far
+-- what is known of the sources so far
 pub told_of : (viewer : Viewer) (written : Head) (before now : Ends) (report left : Option (List ℕ))
     → (going : Going viewer written before now report left)
     → Told (sources_of before.read before.written report) viewer.form going.items left
 told_of viewer written before now report left going = record { are = going.so_far.are; lines = going.told }
 
--- the next line of the report is none that may stand there
+-- the next line of the report is one that is not possible there
 pub next_other : (viewer : Viewer) (written : Head) (before now : Ends) (report left : Option (List ℕ)) → Going viewer written before now report left
     → IfSome left (IsNoNext (version_of viewer.form) (turn_in viewer)) → AreNoRest viewer.form (sources_of before.read before.written report)
 next_other viewer written before now report left going other =
@@ -100,47 +100,17 @@ next_other viewer written before now report left going other =
     no_line (sources_of before.read before.written report) viewer.form going.items left (told_of viewer written before now report left going)
     (subst T (turn_is viewer written before now going.items going.so_far) other)
 
--- the line of one more entry stands behind those of the items
+-- the line of one more entry follows those of the items
 pub next_line_of : (viewer : Viewer) (head : Head) (before now : Ends) (items : List Item) (left next : Option (List ℕ)) (entry : PlainEntry)
-    → SoFar viewer head before now items
+    → ViewerAt viewer head before now items
     → ToldNext (version_of viewer.form) (turn_in viewer) left next entry → HasNextLine viewer.form items left entry
 next_line_of viewer head before now items left next entry so_far told =
     let T : Turn → Type 0 = λ t. ToldNext (version_of viewer.form) t left next entry in
     record { behind = next; told = subst T (turn_is viewer head before now items so_far) told }
 
--- one more line may be taken
-pub may_more : (old new : Viewer) (entry : PlainEntry) → MayTake old → entry.number < 2 ^ 32 → entry.number ≡ (turn_in old).done + 1 → WentOn old new
-    → MayTake new
-may_more old new entry may fits number went = by (waits old.owed) refl number went.count went.second_count where
-  by : (second : Bool) → waits old.owed ≡ second → entry.number ≡ (if second then old.second_count else old.files.count) + 1
-      → new.files.count ≡ old.files.count + (if second then 0 else 1)
-      → new.second_count ≡ old.second_count + (if second then 1 else 0) → MayTake new
-  by true is number count second_count =
-      record {
-        ready = went.ready;
-        few = omega (arith, count, may.few);
-        few_seconds = omega (arith, number, second_count, fits);
-        few_frames = went.few_frames;
-      }
-  by false is number count second_count =
-      record {
-        ready = went.ready;
-        few = omega (arith, number, count, fits);
-        few_seconds = omega (arith, second_count, may.few_seconds);
-        few_frames = went.few_frames;
-      }
-
--- and one more was
-pub lines_more : (old new : Viewer) → WentOn old new → lines_in new ≡ lines_in old + 1
-lines_more old new went = by (waits old.owed) went.count went.second_count where
-  by : (second : Bool) → new.files.count ≡ old.files.count + (if second then 0 else 1)
-      → new.second_count ≡ old.second_count + (if second then 1 else 0) → lines_in new ≡ lines_in old + 1
-  by true count second_count = omega (arith, count, second_count)
-  by false count second_count = omega (arith, count, second_count)
-
 -- a view that has read ahead in the report
-ahead_so_far : (viewer : Viewer) (lines : Lines) (head : Head) (before now : Ends) (items : List Item) → SoFar viewer head before now items
-    → SoFar (record viewer { lines = lines }) head before now items
+ahead_so_far : (viewer : Viewer) (lines : Lines) (head : Head) (before now : Ends) (items : List Item) → ViewerAt viewer head before now items
+    → ViewerAt (record viewer { lines = lines }) head before now items
 ahead_so_far viewer lines head before now items so_far =
     record {
       are = so_far.are;
@@ -162,9 +132,6 @@ pub going_ahead : (viewer : Viewer) (lines : Lines) (head : Head) (before now : 
     → Going viewer head before now report left → Going (record viewer { lines = lines }) head before now report left
 going_ahead viewer lines head before now report left going =
     record { items = going.items; so_far = ahead_so_far viewer lines head before now going.items going.so_far; told = going.told }
-
-pub may_ahead : (viewer : Viewer) (lines : Lines) → MayTake viewer → MayTake (record viewer { lines = lines })
-may_ahead viewer lines may = record { ready = may.ready; few = may.few; few_seconds = may.few_seconds; few_frames = may.few_frames }
 
 -- the same where other octets of the report were read ahead
 pub going_at : (viewer : Viewer) (head : Head) (before now : Ends) (report left : Option (List ℕ)) (lines other : Lines) → lines ≡ other

@@ -1,8 +1,9 @@
--- The files of a finished run are viewed, but for memory and faults; tables of eras and notes show no record.
-use Rattle.std.proofs.Common.{◌≡◌, ◌⊎◌, ◌&&◌, ◌==◌, ℕ, Bool, true, false, List, [], ◌∷◌, ◌++◌, Option, Some, Ok, refl, sym, ap, subst, ◌∙◌, inl, inr, if◌then◌else◌}
+-- The files of a finished run are viewed, but for memory and faults; tables of eras and notes show
+-- no record.
+use Rattle.std.proofs.Common.{◌≡◌, ◌⊎◌, ◌&&◌, ◌==◌, not, ℕ, Bool, true, false, List, [], ◌∷◌, ◌++◌, Option, Some, Ok, refl, sym, ap, subst, ◌∙◌, inl, inr, if◌then◌else◌}
 use Rattle.std.specs.Prelude.{IfSome}
 use Rattle.pcap_file.specs.declared.head.Head.{Head}
-use Rattle.run_view.specs.Chosen.{has_choice, meets_all, met_of, prints_records}
+use Rattle.run_view.specs.Chosen.{chooses_records, has_choice, meets_all, met_of}
 use Rattle.run_view.specs.Events.{chosen_of, ends_chosen, events_of, is_summed, of_count, of_record, record_lines, records_shown}
 use Rattle.run_view.specs.Items.{Item, frames_of, packets_of}
 use Rattle.run_view.specs.Laws.{AreOfARun, HasFiles, NothingFails, OthersShowNoRecord, RunsAreViewed}
@@ -54,7 +55,7 @@ no_and : (a : Bool) → (a && false) ≡ false
 no_and true = refl
 no_and false = refl
 
--- whether records are shown, and a summary, by what is printed
+-- whether records are chosen, and a summary is shown, by what is printed
 abbrev records_by : (choice : Bool) → Print → Bool
 records_by choice print = elim print [
   | prints.Text ↦ choice
@@ -76,14 +77,14 @@ summed_by print = elim print [
 ]
 
 module _ (asked : Asked) (form : Form) (head : Head) where
-  none_shown : prints_records asked ≡ false → (items : List Item) → records_shown asked form head items ≡ []
+  none_shown : chooses_records asked ≡ false → (items : List Item) → records_shown asked form head items ≡ []
   none_shown quiet [] = refl
   none_shown quiet (item ∷ older) =
       let ends : ends_chosen asked head (item ∷ older) ≡ false =
       ap (λ (b : Bool). (item.owed == 0) && (b && meets_all (met_of asked head (item ∷ older)))) quiet ∙ no_and (item.owed == 0) in
-      λ i. none_shown quiet older i ++ (if ends i then of_record (record_lines form head (item ∷ older)) ∷ [] else [])
+      λ i. none_shown quiet older i ++ (if ends i && not asked.summary then of_record (record_lines form head (item ∷ older)) ∷ [] else [])
 
-  silent : (items : List Item) → prints_records asked ≡ false → is_summed asked ≡ false → events_of asked form head items ≡ []
+  silent : (items : List Item) → chooses_records asked ≡ false → is_summed asked ≡ false → events_of asked form head items ≡ []
   silent items quiet unsummed =
       λ i. none_shown quiet items i ++ (if unsummed i && has_choice asked then of_count (chosen_of asked head items) ∷ [] else [])
 

@@ -1,4 +1,5 @@
--- The lines of a report: how many of each engine, how many frames they count, and where the next one stands; octets are read as lines in one way.
+-- The lines of a report: how many of each engine, how many frames they count, and the position of
+-- the next one; octets are read as lines in one way.
 use Rattle.std.proofs.Common.{◌≡◌, ◌⊎◌, ℕ, ◌+◌, ◌-◌, ◌*◌, ◌<◌, ◌≤◌, ◌^◌, Bool, true, false, get_or, add-one, is_some, if◌then◌else◌, List, [], ◌∷◌, ◌++◌, length, drop, Option, Some, None, refl, sym, ap, subst, ◌∙◌, inl, inr, arith, append_assoc, append-nil, length-append}
 use Rattle.std.specs.Io.KnownBytes.{Consumes}
 use Rattle.std.proofs.lemmas.Bool.{cases_lt}
@@ -13,7 +14,7 @@ use Rattle.run_view.specs.Forms.{answers, version_of}
 use Rattle.run_view.specs.Items.{AreItems, IsFirstLine, IsOfNewest, IsSecondLine, Item, Line, firsts, frames_of, is_second, lines_of, lines_text, owed_of, packets_in, packets_of, seconds, text_by, turn_at, turn_of, waits}
 use Rattle.run_view.specs.declared.form.Form.{Form}
 use Rattle.run_view.specs.declared.form.Form.TheVariants.{Version1, Version2, Both}
-use Rattle.run_view.specs.declared.told.Turn.{Turn}
+use Rattle.run_view.specs.declared.turn.Turn.{Turn}
 use Rattle.run_view.proofs.Fronts.{end_front, line_front}
 
 -- how many lines of each engine there are
@@ -25,7 +26,7 @@ abbrev pub seconds_in : List Line → ℕ
 seconds_in [] = 0
 seconds_in (line ∷ older) = (if line.second then 1 else 0) + seconds_in older
 
--- how many lines of the second engine are wanting behind them
+-- how many lines of the second engine are missing after them
 abbrev pub owed_in : (form : Form) → List Line → ℕ
 owed_in form [] = 0
 owed_in form (line ∷ older) = if line.second then owed_in form older - 1 else answers form line.entry.packets
@@ -35,11 +36,11 @@ abbrev pub total : (form : Form) → List Line → ℕ
 total form [] = 0
 total form (line ∷ older) = frames_by line.second form line.entry + total form older
 
--- where the next line behind them stands
+-- the position of the next line after them
 abbrev pub turn_behind : (form : Form) → List Line → Turn
 turn_behind form lines = turn_at (owed_in form lines) (firsts_in lines) (seconds_in lines) (total form lines)
 
--- a line stands where it may
+-- a line is at a position where it may be
 pub record StandsBehind (form : Form) (older : List Line) (line : Line) : Type 0 where
   pub fits : IsEntryOf (version_of form) line.entry
   pub second_is : line.second ≡ waits (owed_in form older)
@@ -73,10 +74,10 @@ pub records_length : (items : List Item) → length (packets_of items) ≡ first
 records_length items = packets_length (firsts items) ∙ sym (firsts_length items)
 
 -- the engine of a line
-alone_is : (item : Item) → item.first ≡ None → is_second item ≡ false
+pub alone_is : (item : Item) → item.first ≡ None → is_second item ≡ false
 alone_is item alone = ap (λ (o : Option PlainEntry). is_some o) alone
 
-newest_is : (older : List Item) (item : Item) → IsOfNewest older item → is_second item ≡ true
+pub newest_is : (older : List Item) (item : Item) → IsOfNewest older item → is_second item ≡ true
 newest_is [] item of_none = absurd of_none
 newest_is (newest ∷ older) item of_newest = ap (λ (o : Option PlainEntry). is_some o) of_newest.1
 
@@ -162,7 +163,7 @@ same_lines form (x ∷ xs) (y ∷ ys) l m one two count same =
     let line : x ≡ y = λ i. record { second = flag i; entry = last.0 i } in
     (ap (λ e. e ∷ xs) line ∙ ap (λ es. y ∷ es) before.0, last.1)
 
--- the lines of some entries, and those of others behind them
+-- the lines of some entries, and those of others after them
 pub record Goes (xs ys : List Line) (l m : List ℕ) : Type 0 where
   pub newer : List Line
   pub are : ys ≡ newer ++ xs
@@ -189,15 +190,26 @@ pub record IsNextOf (form : Form) (xs ys : List Line) (l : List ℕ) : Type 0 wh
   pub is : l ≡ text_by line.second line.entry ++ rest
   pub fewer : firsts_in xs + (if line.second then 0 else 1) ≤ firsts_in ys
   pub enough : total form xs + frames_by line.second form line.entry ≤ total form ys
+  pub newer : List Line
+  pub are : ys ≡ newer ++ line ∷ xs
 
 pub next_of : (form : Form) (xs newer : List Line) (y : Line) (l m : List ℕ) → AreLines form ((y ∷ newer) ++ xs) → l ≡ lines_text (y ∷ newer) ++ m
     → IsNextOf form xs ((y ∷ newer) ++ xs) l
 next_of form xs [] y l m are left =
-    record { line = y; rest = m; stands = are.0; is = left; fewer = omega arith; enough = omega arith }
+    record { line = y; rest = m; stands = are.0; is = left; fewer = omega arith; enough = omega arith; newer = []; are = refl }
 next_of form xs (z ∷ newer) y l m are left =
     let older =
     next_of form xs newer z l (text_by y.second y.entry ++ m) are.1 (left ∙ append_assoc (lines_text (z ∷ newer)) (text_by y.second y.entry) m) in
-    record { line = older.line; rest = older.rest; stands = older.stands; is = older.is; fewer = omega (arith, older.fewer); enough = omega (arith, older.enough) }
+    record {
+      line = older.line;
+      rest = older.rest;
+      stands = older.stands;
+      is = older.is;
+      fewer = omega (arith, older.fewer);
+      enough = omega (arith, older.enough);
+      newer = y ∷ older.newer;
+      are = ap (λ ls. y ∷ ls) older.are;
+    }
 
 -- the report is over
 pub record AtEnd (xs ys : List Line) (l : List ℕ) (records frames : ℕ) : Type 0 where
@@ -261,7 +273,7 @@ compare form xs ys l records frames few few_all one two same = elim (cases_lt (l
       stands form xs ys on.newer l records frames two on.are on.left
 ]
 
--- what was taken is in front
+-- the taken octets are in front
 pub record InFront (l text : List ℕ) (left : Option (List ℕ)) : Type 0 where
   pub rest : List ℕ
   pub is : l ≡ text ++ rest

@@ -9,19 +9,19 @@ use Rattle.rule_book.specs.declared.last.Last.TheVariants as lasts
 use Rattle.rule_book.proofs.Unique.{entry_no_last, entry_one}
 use Rattle.run_view.specs.declared.form.Form.{Form}
 use Rattle.run_view.specs.declared.form.Form.TheVariants.{Version1, Version2, Both}
-use Rattle.run_view.specs.declared.told.Turn.{Turn}
+use Rattle.run_view.specs.declared.turn.Turn.{Turn}
 use Rattle.run_view.specs.declared.viewer.Viewer.{Viewer}
-use Rattle.run_view.specs.Gives.{ToldNext}
+use Rattle.run_view.specs.Contents.{ToldNext}
 use Rattle.run_view.proofs.ReportNext.{IsNoNext}
 use Rattle.run_view.specs.Stops.{IsNoFirst}
 use Rattle.run_view.specs.Forms.{heading}
 use Rattle.run_view.specs.Items.{text_by, turn_at, waits}
 use Rattle.run_view.specs.Lines.{front_line}
-use Rattle.run_view.specs.SoFar.{MayTake, turn_in}
-use Rattle.run_view.specs.Told.{IsLast, part_by}
+use Rattle.run_view.specs.ViewerAt.{MayTake, turn_in}
+use Rattle.run_view.specs.Turns.{IsLast, part_by}
 use Rattle.run_view.proofs.Fronts.{end_front, entry_is_line, heading_front, line_front}
 
--- few lines of the engine whose turn it is stand before the next
+-- few lines of the engine whose turn it is precede the next
 few_done : (owed firsts seconds frames : ℕ) → firsts < 2 ^ 32 → seconds < 2 ^ 32 → (turn_at owed firsts seconds frames).done < 2 ^ 32
 few_done owed firsts seconds frames few few_seconds = by (waits owed) where
   by : (b : Bool) → (if b then seconds else firsts) < 2 ^ 32
@@ -61,7 +61,7 @@ pub record IsNone (version : ℕ) (turn : Turn) (text : List ℕ) : Type 0 where
   pub entry : (entry : PlainEntry) → IsEntryOf version entry → entry.number ≡ turn.done + 1 → text ≢ text_by turn.second entry
   pub last : turn.second ≡ false → text ≢ last_text (lasts.End turn.done turn.frames)
 
--- octets whose front line is none that may stand there begin with none
+-- octets whose front line is not possible there begin with no such line
 no_next_in : (version : ℕ) (turn : Turn) (text octets : List ℕ) → turn.done < 2 ^ 32 → turn.frames < 2 ^ 64 → text ≡ front_line 400 octets
     → IsNone version turn text → IsNoNext version turn octets
 no_next_in version turn text octets few few_frames is none =
@@ -75,17 +75,7 @@ no_next_behind : (version : ℕ) (turn : Turn) (text : List ℕ) (left : Option 
 no_next_behind version turn text None few few_frames is none = tt
 no_next_behind version turn text (Some octets) few few_frames is none = no_next_in version turn text octets few few_frames is none
 
--- the same of the first line
-pub no_first_in : (text : List ℕ) (report : Option (List ℕ)) → IfSome report (λ octets. text ≡ front_line 400 octets) → text ≢ heading Version1
-    → text ≢ heading Version2 → text ≢ heading Both → IfSome report IsNoFirst
-no_first_in text None is one two both = tt
-no_first_in text (Some octets) is one two both = λ form rest begins. other form (is ∙ heading_front octets rest form begins) where
-  other : (form : Form) → text ≢ heading form
-  other Version1 = one
-  other Version2 = two
-  other Both = both
-
--- the next entry was told
+-- the next entry is known
 told_next : (version : ℕ) (turn : Turn) (text : List ℕ) (left next : Option (List ℕ)) (entry : PlainEntry) → Consumes left next text
     → IsEntryLine version turn.second text entry → entry.number ≡ turn.done + 1 → ToldNext version turn left next entry
 told_next version turn text left next entry took line number =

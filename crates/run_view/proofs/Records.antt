@@ -19,7 +19,7 @@ use Rattle.capture_input.specs.Reads.{GivesPacket, ReachesEnd, Reads, StopsAt, S
 use Rattle.capture_input.proofs.Inputs.{fault_no_end}
 use Rattle.run_view.proofs.ReportNext.{BeginsWithFrames, BeginsWithRecords}
 use Rattle.run_view.specs.Runs.{IsNoInput}
-use Rattle.run_view.specs.Standing.{InputAt, InputReads, InputStop, OutputAt}
+use Rattle.run_view.specs.Readers.{InputAt, InputReads, InputStop, OutputAt}
 use Rattle.run_view.specs.Stops.{input_stop}
 
 -- What a source begins with.
@@ -66,20 +66,6 @@ pub head_stops : (all now : Option (List ℕ)) (before after : ℕ) (fault : Inp
 head_stops all now before after fault offset stops rose =
     stop_so all before after fault offset (λ own. no_input_at all fault offset (head_fails all now fault offset own stops)) (λ is. rose (ap is_read_fault is))
 
--- the next record
-given_more : (old new : Input) (head : Head) (all before after : Option (List ℕ)) (packets : List Packet) (given : Record)
-    (at : InputAt old head all before packets)
-    → GivesPacket old new None at.walk before after given → InputAt new head all after (shown given ∷ packets)
-given_more old new head all before after packets given at gives =
-    record {
-      walk = gives.farther;
-      took =
-          let P : Head → Type 0 = λ h. Took None all after h gives.farther in let Q : Head → Type 0 = λ h. Took None all before h at.walk in subst P at.head_is (gives.continues all (subst Q (sym at.head_is) at.took));
-      packets_are = gives.packets ∙ ap (λ ps. shown given ∷ ps) at.packets_are;
-      behind = gives.behind;
-      head_is = gives.head ∙ at.head_is;
-    }
-
 -- the end
 ended : WholeIsInput
     → (old new : Input) (head : Head) (all before after : Option (List ℕ)) (packets : List Packet) (at : InputAt old head all before packets)
@@ -92,15 +78,7 @@ ended law old new head all before after packets at ends =
     let R : List Packet → Type 0 = λ ps. InputReads new head all after ps None in
     subst R (ends.silent ∙ at.packets_are) whole
 
-pub reads_record : WholeIsInput → (old new : Input) (head : Head) (all before after : Option (List ℕ)) (packets : List Packet) (given : Option Record)
-    → ((inside : Option (List ℕ)) (walk : Walk) → Behind old inside walk → Reads old new inside walk before after (Ok given))
-    → InputAt old head all before packets → InputReads new head all after packets given
-reads_record law old new head all before after packets None reads at =
-    ended law old new head all before after packets at (reads None at.walk at.behind)
-reads_record law old new head all before after packets (Some given) reads at =
-    given_more old new head all before after packets given at (reads None at.walk at.behind)
-
--- a fault behind the records
+-- a fault after the records
 flawed_behind : (head : Head) (walk : Walk) (between after : Option (List ℕ)) (fault : InputFault) → is_read_fault fault ≡ false
     → StopsAt None head walk between after fault → IfSome between (λ rest. IsFlawed None head walk rest fault)
 flawed_behind head walk None after fault own stops = tt

@@ -1,4 +1,5 @@
--- What the files begin with, and what the report has next: no line, the line of an entry and its frames, or the last line.
+-- What the files begin with, and what the report has next: no line, the line of an entry and its
+-- frames, or the last line.
 use Rattle.std.specs.Prelude.{◌≡◌, ◌≢◌, ℕ, ◌+◌, Bool, true, false, List, ◌++◌, Option, None}
 use Rattle.std.specs.Io.KnownBytes.{Consumes}
 use Rattle.pcap_file.specs.declared.head.Head.{Head}
@@ -9,13 +10,13 @@ use Rattle.rule_book.specs.Reports.{IsEntryOf}
 use Rattle.rule_book.specs.Text.{last_text}
 use Rattle.rule_book.specs.declared.last.Last.TheVariants.{End}
 use Rattle.run_view.specs.Forms.{own_frames}
-use Rattle.run_view.specs.Gives.{TookFrames}
+use Rattle.run_view.specs.Contents.{TookFrames}
 use Rattle.run_view.specs.Items.{Item, end_text, owed_of, text_by}
 use Rattle.run_view.specs.declared.form.Form.{Form}
-use Rattle.run_view.specs.declared.told.Turn.{Turn}
+use Rattle.run_view.specs.declared.turn.Turn.{Turn}
 
--- the octets begin neither with the line of an entry of this version that may stand there nor, where no line of the second engine is wanting, with
--- the last line
+-- the octets begin neither with the line of an entry of this version that is possible there nor,
+-- where no line of the second engine is missing, with the last line
 pub record IsNoNext (version : ℕ) (turn : Turn) (octets : List ℕ) : Type 0 where
   pub entry : (entry : PlainEntry) → IsEntryOf version entry → entry.number ≡ turn.done + 1 → (rest : List ℕ)
       → octets ≢ text_by turn.second entry ++ rest
@@ -26,7 +27,7 @@ abbrev pub frames_by : (second : Bool) → (form : Form) → PlainEntry → ℕ
 frames_by false form entry = own_frames form entry.packets
 frames_by true form entry = entry.packets
 
--- the last line of a run of these items, of which none is wanting, was taken of the report
+-- the last line of a run of these items, none of which is missing, was taken of the report
 pub record TookLast (items : List Item) (left behind : Option (List ℕ)) : Type 0 where
   pub none_owed : owed_of items ≡ 0
   pub taken : Consumes left behind (end_text items)

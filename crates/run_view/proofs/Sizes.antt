@@ -8,10 +8,10 @@ use Rattle.pcap_file.specs.Capture.{IsCapture, ReadsTo}
 use Rattle.pcap_file.proofs.Captures.{HasNoRecord, goes_on, none_at_end}
 use Rattle.capture_input.specs.Inputs.{BeginsWith, IsInput, Took, Walk, packets_in}
 use Rattle.capture_input.proofs.Stops.{input_has_all}
-use Rattle.run_view.specs.Gives.{TookFrames}
+use Rattle.run_view.specs.Contents.{TookFrames}
 use Rattle.run_view.proofs.ReportNext.{BeginsWithFrames, BeginsWithRecords}
 
--- the input begins with so many records
+-- the input begins with this number of records
 pub record HasRecords (input : List ℕ) (count : ℕ) : Type 0 where
   pub head : Head
   pub walk : Walk
@@ -19,7 +19,7 @@ pub record HasRecords (input : List ℕ) (count : ℕ) : Type 0 where
   pub begins : BeginsWith None input head walk rest
   pub long : length (packets_in walk) ≡ count
 
--- it is an input of so many records
+-- it is an input of this number of records
 pub record HasAllRecords (input : List ℕ) (count : ℕ) : Type 0 where
   pub head : Head
   pub packets : List Packet
@@ -41,7 +41,7 @@ has_records input head packets b = by b.left b.took where
   by None took = absurd took
   by (Some rest) took = record { head = head; walk = b.walk; rest = rest; begins = took; long = ap length b.packets_are }
 
--- the output begins with so many frames
+-- the output begins with this number of frames
 pub record HasFrames (output : List ℕ) (count : ℕ) : Type 0 where
   pub head : Head
   pub frames : List Packet
@@ -50,7 +50,7 @@ pub record HasFrames (output : List ℕ) (count : ℕ) : Type 0 where
   pub reads : ReadsTo head.order (drop 24 output) frames rest
   pub long : length frames ≡ count
 
--- it is a capture of so many frames
+-- it is a capture of this number of frames
 pub record HasAllFrames (output : List ℕ) (count : ℕ) : Type 0 where
   pub head : Head
   pub frames : List Packet

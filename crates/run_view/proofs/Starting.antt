@@ -1,4 +1,4 @@
--- The begin of a view.
+-- The start of a view.
 use Rattle.std.proofs.Common.{◌≡◌, ℕ, List, [], Option, Some, None, Ok, refl, sym, ap, subst, ◌∙◌, inl, inr}
 use Rattle.std.specs.Prelude.{IfSome}
 use Rattle.std.specs.Io.KnownBytes.{Consumes}
@@ -12,14 +12,14 @@ use Rattle.run_view.specs.declared.form.Form.{Form}
 use Rattle.run_view.specs.declared.line.Lines.{Lines}
 use Rattle.run_view.specs.declared.viewer.Viewer.{Viewer}
 use Rattle.run_view.specs.declared.words.Asked.{Asked}
-use Rattle.run_view.specs.Ahead.{left_in}
+use Rattle.run_view.specs.ReadAhead.{left_in}
 use Rattle.run_view.specs.Events.{Event}
 use Rattle.run_view.specs.Forms.{heading}
 use Rattle.run_view.specs.Items.{waits}
 use Rattle.run_view.specs.Progress.{Whole}
 use Rattle.run_view.specs.Runs.{HasHead, HaveTwoLinks, IsOfOtherLink}
-use Rattle.run_view.specs.SoFar.{IsFresh, SoFar, ends_of}
-use Rattle.run_view.specs.Standing.{InputAt, InputOpened, OutputAt}
+use Rattle.run_view.specs.ViewerAt.{IsFresh, ViewerAt, ends_of}
+use Rattle.run_view.specs.Readers.{InputAt, InputOpened, OutputAt}
 use Rattle.run_view.specs.Stops.{IsNoFirst}
 use Rattle.run_view.specs.Viewed.{ViewedAs}
 use Rattle.run_view.proofs.Ending.{viewed_as}
@@ -42,12 +42,12 @@ first_at fresh report same none = subst (λ r. IfSome r IsNoFirst) same none
 pub fresh_so_far : (viewer : Viewer) (asked : Asked) (form : Form) (lines : Lines) (input : Input) (reader : Reading)
     (read read_left written written_left : Option (List ℕ)) (shown now : Option (List Event))
     → IsFresh viewer asked form lines input reader → InputOpened input read read_left → OutputAt reader reader.head written written_left []
-    → now ≡ shown → SoFar viewer reader.head (ends_of read written shown) (ends_of read_left written_left now) []
+    → now ≡ shown → ViewerAt viewer reader.head (ends_of read written shown) (ends_of read_left written_left now) []
 fresh_so_far viewer asked form lines input reader read read_left written written_left shown now fresh opened at same =
     let H : Head → Type 0 = λ h. InputAt input h read read_left [] in
     let I : Input → Type 0 = λ i. InputAt i viewer.files.head read read_left [] in
     let R : Reading → Type 0 = λ r. OutputAt r reader.head written written_left [] in
-    let S : Option (List Event) → Type 0 = λ s. SoFar viewer reader.head (ends_of read written shown) (ends_of read_left written_left s) [] in
+    let S : Option (List Event) → Type 0 = λ s. ViewerAt viewer reader.head (ends_of read written shown) (ends_of read_left written_left s) [] in
     subst S (sym same)
     (record {
       are = tt;
@@ -64,15 +64,15 @@ fresh_so_far viewer asked form lines input reader read read_left written written
 
 -- the whole run was viewed as the words ask
 pub viewed_fresh : (viewer : Viewer) (asked : Asked) (form : Form) (lines : Lines) (input : Input) (reader : Reading)
-    (read written report behind : Option (List ℕ)) (shown now : Option (List Event))
+    (read written report behind : Option (List ℕ)) (shown now : Option (List Event)) (status : ℕ)
     → IsFresh viewer asked form lines input reader → reader.head.link ≡ (head_in input).link → Consumes report behind (heading form)
-    → Whole viewer.asked viewer.form viewer.files.head reader.head (ends_of read written shown) now behind
-    → ViewedAs asked read written report shown now
-viewed_fresh viewer asked form lines input reader read written report behind shown now fresh same first whole =
-    let A : Asked → Type 0 = λ a. Whole a viewer.form viewer.files.head reader.head (ends_of read written shown) now behind in
-    let V : Form → Type 0 = λ f. Whole asked f viewer.files.head reader.head (ends_of read written shown) now behind in
+    → Whole viewer.asked viewer.form viewer.files.head reader.head (ends_of read written shown) now behind status
+    → ViewedAs asked read written report shown now status
+viewed_fresh viewer asked form lines input reader read written report behind shown now status fresh same first whole =
+    let A : Asked → Type 0 = λ a. Whole a viewer.form viewer.files.head reader.head (ends_of read written shown) now behind status in
+    let V : Form → Type 0 = λ f. Whole asked f viewer.files.head reader.head (ends_of read written shown) now behind status in
     let L : Head → Type 0 = λ h. reader.head.link ≡ h.link in
-    viewed_as asked form viewer.files.head reader.head read written shown report behind now (subst L (sym fresh.head_is) same) first
+    viewed_as asked form viewer.files.head reader.head read written shown report behind now status (subst L (sym fresh.head_is) same) first
     (subst V fresh.form_is (subst A fresh.asked_is whole))
 
 has_head : (all left : Option (List ℕ)) (head : Head) (walk : Walk) → Took None all left head walk → IfSome all (λ octets. HasHead octets head)
@@ -80,7 +80,7 @@ has_head None left head walk took = tt
 has_head (Some octets) None head walk took = absurd took
 has_head (Some octets) (Some rest) head walk took = record { walk = walk; rest = rest; begins = took }
 
--- the output has another link than the input that was opened
+-- the output's link differs from that of the opened input
 pub two_links : (input : Input) (link : Link) (read left output : Option (List ℕ)) → link ≡ (head_in input).link → InputOpened input read left
     → IsOfOtherLink link output → HaveTwoLinks read output
 two_links input link read left output same opened other =

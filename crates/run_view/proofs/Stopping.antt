@@ -1,5 +1,5 @@
 -- What a stop says, from what another function's stop says.
-use Rattle.std.proofs.Common.{◌≡◌, ◌⊎◌, ◌≤◌, ℕ, ◌==◌, ◌||◌, Bool, true, false, List, Some, inl, inr, refl, sym, ap, subst, ◌∙◌, arith}
+use Rattle.std.proofs.Common.{◌≡◌, ◌⊎◌, ◌≤◌, ℕ, ◌==◌, if◌then◌else◌, ◌||◌, Bool, true, false, List, Some, inl, inr, refl, sym, ap, subst, ◌∙◌, arith}
 use Rattle.edge_io.specs.Faults.{Rose}
 use Rattle.capture_input.specs.declared.fault.InputFault.{InputFault}
 use Rattle.capture_input.specs.declared.fault.InputFault.TheVariants as faults
@@ -8,7 +8,7 @@ use Rattle.run_view.specs.declared.stop.Stop.{Stop}
 use Rattle.run_view.specs.declared.stop.Stop.TheVariants as stops
 use Rattle.run_view.specs.Runs.{AreNoRest, FaultCounts, Moment, SourceRose, Sources, faults_of, sources_at}
 use Rattle.run_view.specs.Stops.{FilesStop, Meaning, RestStop, Says, fault_status, status_of}
-use Rattle.run_view.specs.Viewed.{Cause, IsToItsEnd, Stopped, Tells}
+use Rattle.run_view.specs.Viewed.{Cause, IsStatusOf, IsToItsEnd, Stopped, Tells}
 use Rattle.run_view.specs.Words.{asked_in}
 
 pub rose_within : (a b c d : ℕ) → a ≤ b → c ≤ d → Rose b c → Rose a d
@@ -40,11 +40,21 @@ rest_more form other s first now wide stop same kept =
 
 -- a view that ends with this status was shown to its end
 abbrev is_end : (status : ℕ) → Bool
-is_end status = (status == 0) || (status == 10)
+is_end status = (status == 0) || (status == 10) || (status == 11)
 
 ends_so : (status : ℕ) → IsToItsEnd status → is_end status ≡ true
 ends_so status (inl is) = rw is refl
-ends_so status (inr is) = rw is refl
+ends_so status (inr (inl is)) = rw is refl
+ends_so status (inr (inr is)) = rw is refl
+
+-- each status of a view to its end is one of these
+pub to_its_end : (evidence : Bool) (chosen status : ℕ) → IsStatusOf evidence chosen status → IsToItsEnd status
+to_its_end true chosen status is = by (chosen == 0) is where
+  by : (none : Bool) → status ≡ (if none then 0 else 11) → IsToItsEnd status
+  by true same = inl same
+  by false same = inr (inr same)
+to_its_end false chosen status (inl is) = inl is
+to_its_end false chosen status (inr is) = inr (inl is)
 
 fault_no_end : (fault : InputFault) → is_end (fault_status fault) ≡ false
 fault_no_end faults.Cut = refl
@@ -75,7 +85,7 @@ told_no_end stop before now status (inr (inr told)) is = let e = sym (ap is_end 
 
 -- the statuses that are returned
 abbrev IsStatus : ℕ → Type 0
-IsStatus status = (status ≤ 5) ⊎ ((7 ≤ status) × (status ≤ 10))
+IsStatus status = (status ≤ 5) ⊎ ((7 ≤ status) × (status ≤ 11))
 
 fault_known : (fault : InputFault) → IsStatus (fault_status fault)
 fault_known faults.Cut = inl (omega arith)
@@ -98,12 +108,12 @@ status_known stops.Unwritten = inr (omega arith, omega arith)
 status_known stops.Memory = inr (omega arith, omega arith)
 status_known (stops.Report line) = inr (omega arith, omega arith)
 
-pub told_known : (stop : Stop) (before now status : ℕ) → Tells stop before now status → (status ≤ 5) ⊎ ((7 ≤ status) × (status ≤ 10))
+pub told_known : (stop : Stop) (before now status : ℕ) → Tells stop before now status → (status ≤ 5) ⊎ ((7 ≤ status) × (status ≤ 11))
 told_known stop before now status (inl told) = subst IsStatus (sym told) (status_known stop)
 told_known stop before now status (inr (inl told)) = inr (omega (arith, told.0), omega (arith, told.0))
 told_known stop before now status (inr (inr told)) = inr (omega (arith, told), omega (arith, told))
 
--- a stop whose cause holds was told
+-- a stop whose cause holds is known
 pub stopped_by : (words : List (List ℕ)) (before : Moment) (now : FaultCounts) (stop : Stop) (mid status : ℕ) → (Rose mid now.out → Rose before.out now.out)
     → Cause words before now stop → Tells stop mid now.out status → Stopped words before now status
 stopped_by words before now stop mid status wider cause (inl told) = record { stop = stop; cause = cause; status_is = told }
@@ -124,7 +134,7 @@ cause_of words before mid now stop input output report out =
     ])
     (λ rose. rose_within _ _ _ _ (omega arith) out rose) stop
 
--- what is returned where the words are refused
+-- what is returned for invalid arguments
 pub refused_told : (status before now : ℕ) → Tells stops.Words before now status → (status ≡ 2) ⊎ (status ≡ 7) ⊎ (status ≡ 8)
 refused_told status before now (inl told) = inl told
 refused_told status before now (inr (inl told)) = inr (inl told.0)

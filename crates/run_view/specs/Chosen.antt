@@ -1,5 +1,6 @@
--- Which records are printed (this project's profile): those that meet each condition that is given. A condition on lines is met by a record of which some line
--- meets it. Lists of items have the newest at the head.
+-- Which records are chosen (this project's profile): those that meet each condition that is given.
+-- A condition on lines is met by a record of which some line meets it. Lists of items have the
+-- newest at the head.
 use Rattle.std.specs.Prelude.{ℕ, ◌==◌, ◌&&◌, ◌||◌, not, get_or, Bool, true, false, List, [], ◌∷◌, Option, Some, None, is_some, if◌then◌else◌}
 use Rattle.std.specs.List.{list_any}
 use Rattle.wire_base.specs.declared.address.Side.{Side}
@@ -19,6 +20,7 @@ use Rattle.run_view.specs.declared.words.Asked.{Asked}
 use Rattle.run_view.specs.declared.words.EraAsked.{EraAsked}
 use Rattle.run_view.specs.declared.words.Print.TheVariants as prints
 use Rattle.run_view.specs.Items.{Item, flow_at, is_second}
+use Rattle.run_view.specs.Judged.{is_pass}
 
 -- the place of a verdict, and of a side, in a list of such names; that of a rule is its number
 abbrev pub verdict_place : Verdict → ℕ
@@ -54,24 +56,37 @@ is_number (Some own) number = own == number
 abbrev pub has_ended : List Ended → (era : ℕ) → Bool
 has_ended ended era = list_any (λ (one : Ended). one.era == era) ended
 
--- the line is one of the engine of the era, and its entry belongs to the era, began it or ended it; or no era is given
+-- the line is one of the engine of the era, and its entry belongs to the era, began it or ended it;
+-- or no era is given
 abbrev pub names_era : Option EraAsked → (second : Bool) → PlainEntry → Bool
 names_era None second entry = true
 names_era (Some era) second entry =
     (if second then era.second else not era.second)
     && (is_number entry.era era.number || is_number entry.begun era.number || has_ended entry.ended era.number)
 
--- source or destination lies in the prefix, or none is given
-abbrev pub is_of : Prefix → Option Flow → Bool
-is_of prefix None = false
-is_of prefix (Some flow) = holds prefix flow.src.0 || holds prefix flow.dst.0
+-- the side is outward
+abbrev pub is_outward : Option Side → Bool
+is_outward (Some Outward) = true
+is_outward _ = false
 
-abbrev pub has_host : Option Prefix → Option Flow → Bool
-has_host None flow = true
-has_host (Some prefix) flow = is_of prefix flow
+-- source or destination is in the prefix
+abbrev pub is_of : Prefix → Flow → Bool
+is_of prefix flow = holds prefix flow.src.0 || holds prefix flow.dst.0
 
--- Which conditions a line meets that has this entry by this engine, and a record with these headers. Those on side and hosts are conditions on the record: they
--- are met by its line of the first engine.
+-- The record is of this host, or none is given. A record whose IPv4 header cannot be read may be of
+-- any host, and is so if unreadable records count.
+abbrev pub has_host : Option Prefix → (unreadable : Bool) → Option Flow → Bool
+has_host None unreadable flow = true
+has_host (Some prefix) unreadable None = unreadable
+has_host (Some prefix) unreadable (Some flow) = is_of prefix flow
+
+-- the line is inbound or has no side, and its verdict is not pass
+abbrev pub is_evidence : PlainEntry → Bool
+is_evidence entry = not (is_outward entry.side) && not (is_pass entry.verdict)
+
+-- Which conditions a line meets that has this entry by this engine, and a record with these
+-- headers. Those on side and hosts are conditions on the record: they are met by its line of the
+-- first engine.
 abbrev pub met_by : Asked → (second : Bool) → PlainEntry → Option Flow → Meets
 met_by asked second entry flow =
     record {
@@ -79,7 +94,8 @@ met_by asked second entry flow =
       era = names_era asked.era second entry;
       verdict = is_listed asked.verdicts (verdict_place entry.verdict);
       side = not second && is_listed asked.sides (side_place entry.side);
-      host = not second && has_host asked.host flow;
+      host = not second && has_host asked.host asked.evidence flow;
+      evidence = not asked.evidence || is_evidence entry;
     }
 
 abbrev pub met_at : Asked → Head → Item → Meets
@@ -94,12 +110,14 @@ either one other =
       verdict = one.verdict || other.verdict;
       side = one.side || other.side;
       host = one.host || other.host;
+      evidence = one.evidence || other.evidence;
     }
 
 abbrev pub nothing_met : Meets
-nothing_met = record { rule = false; era = false; verdict = false; side = false; host = false }
+nothing_met = record { rule = false; era = false; verdict = false; side = false; host = false; evidence = false }
 
--- which conditions the lines of the newest record meet: a line of the first engine, and those of the second behind it
+-- which conditions the lines of the newest record meet: a line of the first engine, and those of
+-- the second after it
 abbrev pub met_of : Asked → Head → List Item → Meets
 met_of asked head [] = nothing_met
 met_of asked head (item ∷ older) = if is_second item then either (met_of asked head older) (met_at asked head item) else met_at asked head item
@@ -109,15 +127,17 @@ abbrev pub meets_record : Meets → Bool
 meets_record met = met.side && met.host
 
 abbrev pub meets_all : Meets → Bool
-meets_all met = ((met.rule && met.era) && met.verdict) && meets_record met
+meets_all met = (((met.rule && met.era) && met.verdict) && met.evidence) && meets_record met
 
 -- a condition is given
 abbrev pub has_choice : Asked → Bool
-has_choice asked = is_some asked.rules || is_some asked.era || is_some asked.verdicts || is_some asked.sides || is_some asked.host
+has_choice asked =
+    is_some asked.rules || is_some asked.era || is_some asked.verdicts || is_some asked.sides || is_some asked.host || asked.evidence
 
--- records are printed: as text only those that are chosen, and none in a table of eras or where notes are asked for
-abbrev pub prints_records : Asked → Bool
-prints_records asked = elim asked.print [
+-- records are chosen: for a text only where a condition is given, and none for a table of eras or
+-- for notes
+abbrev pub chooses_records : Asked → Bool
+chooses_records asked = elim asked.print [
   | prints.Text ↦ has_choice asked
   | prints.Json ↦ true
   | prints.Records ↦ true
@@ -126,6 +146,6 @@ prints_records asked = elim asked.print [
   | prints.JsonNotes ↦ false
 ]
 
--- the newest record is printed with these as its lines
-abbrev pub is_printed : Asked → Head → List Item → Bool
-is_printed asked head items = prints_records asked && meets_all (met_of asked head items)
+-- the newest record is chosen if these are its lines
+abbrev pub is_chosen : Asked → Head → List Item → Bool
+is_chosen asked head items = chooses_records asked && meets_all (met_of asked head items)

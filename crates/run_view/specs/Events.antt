@@ -1,5 +1,6 @@
--- What is shown of a run (this project's profile): a list of events, the oldest first. Lists of items have the newest at the head.
-use Rattle.std.specs.Prelude.{◌≡◌, ◌≤◌, ℕ, ◌==◌, ◌&&◌, Bool, true, false, List, [], ◌∷◌, ◌++◌, length, map, Option, Some, None, Result, Ok, Err, OnOk, if◌then◌else◌}
+-- What is shown of a run (this project's profile): a list of events, the oldest first. Lists of
+-- items have the newest at the head.
+use Rattle.std.specs.Prelude.{◌≡◌, ◌≤◌, ℕ, ◌==◌, ◌&&◌, not, Bool, true, false, List, [], ◌∷◌, ◌++◌, length, map, Option, Some, None, Result, Ok, Err, OnOk, if◌then◌else◌}
 use Rattle.edge_io.specs.Faults.{Rose, next_count}
 use Rattle.pcap_file.specs.declared.head.Head.{Head}
 use Rattle.view_text.specs.Lines.{PlainLine, plain_line}
@@ -10,11 +11,12 @@ use Rattle.run_view.specs.declared.events.Unshown.TheVariants.{Failed, NoMemory}
 use Rattle.run_view.specs.declared.form.Form.{Form}
 use Rattle.run_view.specs.declared.words.Asked.{Asked}
 use Rattle.run_view.specs.declared.words.Print.TheVariants as prints
-use Rattle.run_view.specs.Chosen.{has_choice, is_printed}
+use Rattle.run_view.specs.Chosen.{has_choice, is_chosen}
 use Rattle.run_view.specs.Forms.{is_both}
 use Rattle.run_view.specs.Items.{Item, by_first, changes_in, flow_at, frames_of, is_second, kinds_in, length_at, time_of, type_without}
 
--- one event: all lines of a record that is chosen, that of the first engine before those of the second; or how many records were chosen
+-- one event: all lines of a record that is chosen, that of the first engine before those of the
+-- second; or how many records were chosen
 pub data Event : Type 0 where
   of_record : List PlainLine → Event
   of_count : ℕ → Event
@@ -24,13 +26,14 @@ abbrev pub plain_event : own.Event → Event
 plain_event (Record lines) = of_record (map plain_line lines.items)
 plain_event (Chosen records) = of_count records
 
--- exactly these events were shown behind those before, where they are known
+-- exactly these events were shown after those before, where they are known
 abbrev pub Shows : (old new : Option (List Event)) → (more : List Event) → Type 0
 Shows None new more = Unit {0}
 Shows (Some before) None more = ⊥
 Shows (Some before) (Some after) more = after ≡ before ++ more
 
--- an event fails by the output, of which the count of faults rose, or for want of memory
+-- an event fails by the output, whose count of faults rose, or because memory could not be
+-- allocated
 abbrev pub FailsBy : (before now : ℕ) → Result Unit Unshown → Type 0
 FailsBy before now (Ok _) = now ≡ before
 FailsBy before now (Err Failed) = Rose before now
@@ -45,7 +48,7 @@ pub record ShowCause (before now : ℕ) (result : Result Unit Unshown) : Type 0 
 abbrev pub is_given : Form → (second : Bool) → Bool
 is_given form second = if second then false else is_both form
 
--- what is shown of an item behind others
+-- what is shown of an item after others
 abbrev pub line_shown : Form → Head → Item → (older : List Item) → PlainLine
 line_shown form head item older =
     record {
@@ -70,13 +73,15 @@ record_lines form head (item ∷ older) = (if is_second item then record_lines f
 -- the newest line is the last of its record, and this is chosen
 abbrev pub ends_chosen : Asked → Head → List Item → Bool
 ends_chosen asked head [] = false
-ends_chosen asked head (item ∷ older) = (item.owed == 0) && is_printed asked head (item ∷ older)
+ends_chosen asked head (item ∷ older) = (item.owed == 0) && is_chosen asked head (item ∷ older)
 
--- what is shown with the newest line: its record, where it is the last of it
+-- what is shown with the newest line: its record, where the line is the last of one that is chosen;
+-- nothing where only a summary is asked for
 abbrev pub newest_event : Asked → Form → Head → List Item → List Event
-newest_event asked form head items = if ends_chosen asked head items then of_record (record_lines form head items) ∷ [] else []
+newest_event asked form head items =
+    if ends_chosen asked head items && not asked.summary then of_record (record_lines form head items) ∷ [] else []
 
--- each record that is chosen
+-- each record that is chosen, unless only a summary is asked for
 abbrev pub records_shown : Asked → Form → Head → List Item → List Event
 records_shown asked form head [] = []
 records_shown asked form head (item ∷ older) = records_shown asked form head older ++ newest_event asked form head (item ∷ older)

@@ -1,5 +1,7 @@
--- What the three files of a finished run have for each line of its report (this project's profile). Lists have the newest at the head.
-use Rattle.std.specs.Prelude.{◌≡◌, ◌⊎◌, ℕ, zero, suc, ◌+◌, ◌*◌, ◌==◌, nat_lt, Bool, true, false, List, [], ◌∷◌, ◌++◌, length, Option, Some, None, is_some, if◌then◌else◌}
+-- What the three files of a finished run have for each line of its report (this project's profile).
+-- Lists have the newest at the head.
+use Rattle.std.specs.Prelude.{◌≡◌, ◌⊎◌, ℕ, zero, suc, ◌+◌, ◌*◌, ◌==◌, ◌&&◌, not, nat_lt, Bool, true, false, List, [], ◌∷◌, ◌++◌, length, Option, Some, None, is_some, if◌then◌else◌}
+use Rattle.std.specs.Str.{bytes_eq}
 use Rattle.wire_base.specs.Frames.{ethertype}
 use Rattle.wire_base.specs.declared.address.Link.{Link}
 use Rattle.wire_base.specs.declared.address.Link.TheVariants.{Ethernet, Raw}
@@ -14,12 +16,13 @@ use Rattle.frame_view.specs.Flows.{flow_in, length_in}
 use Rattle.frame_view.specs.declared.flow.Flow.{Flow}
 use Rattle.run_view.specs.declared.form.Form.{Form}
 use Rattle.run_view.specs.declared.judged.Kinds.{Kinds}
-use Rattle.run_view.specs.declared.told.Turn.{Turn}
-use Rattle.run_view.specs.Forms.{answers, own_frames, version_of}
-use Rattle.run_view.specs.Judged.{kinds_of, made_at}
+use Rattle.run_view.specs.declared.turn.Turn.{Turn}
+use Rattle.run_view.specs.Forms.{answers, is_both, own_frames, version_of}
+use Rattle.run_view.specs.Judged.{is_pass, kinds_of, made_at}
 
--- a line of the report: the record of the input that it is of, its entry, the frames of the output that it counts, the entry of the record by the first engine
--- where the line is one of the second, and how many lines of the second engine are still to come for the record
+-- A line of the report: the record of the input that it is of, its entry, and the frames of the
+-- output that it counts. Also the entry of the record by the first engine where the line is one of
+-- the second, and how many lines of the second engine are still to come for the record.
 pub record Item : Type 0 where
   pub packet : Packet
   pub entry : PlainEntry
@@ -63,7 +66,7 @@ abbrev pub owed_of : List Item → ℕ
 owed_of [] = 0
 owed_of (item ∷ older) = item.owed
 
--- the text of an entry by an engine: of the second behind `/` (47)
+-- the text of an entry by an engine: of the second after `/` (47)
 abbrev pub text_by : (second : Bool) → PlainEntry → List ℕ
 text_by false entry = entry_text entry
 text_by true entry = 47 ∷ entry_text entry
@@ -88,16 +91,17 @@ abbrev pub lines_text : List Line → List ℕ
 lines_text [] = []
 lines_text (line ∷ older) = lines_text older ++ text_by line.second line.entry
 
--- lines of the second engine are wanting
+-- lines of the second engine are to come
 abbrev pub waits : (owed : ℕ) → Bool
 waits zero = false
 waits (suc n) = true
 
--- where a line stands before which so many lines of the second engine are wanting, and so many lines of both engines and so many frames stand
+-- the position of a line: the numbers of lines of the second engine that are to come before it, and
+-- of lines of both engines and of frames that precede it
 abbrev pub turn_at : (owed firsts seconds frames : ℕ) → Turn
 turn_at owed firsts seconds frames = record { second = waits owed; done = if waits owed then seconds else firsts; frames = frames }
 
--- where the next line behind these stands
+-- the position of the next line after these
 abbrev pub turn_of : List Item → Turn
 turn_of items = turn_at (owed_of items) (length (firsts items)) (length (seconds items)) (length (frames_of items))
 
@@ -106,7 +110,28 @@ abbrev pub IsOfNewest : List Item → Item → Type 0
 IsOfNewest [] item = ⊥
 IsOfNewest (newest ∷ older) item = (item.packet ≡ newest.packet) × (item.first ≡ Some (by_first newest))
 
--- a line of the first engine: no line of the second is wanting before it, and it has the next number
+-- the engines that judged the frames of the line passed the record: the first alone, or, where a
+-- second judged what the first wrote, both
+abbrev pub is_passed : (both : Bool) → PlainEntry → (first : Option PlainEntry) → Bool
+is_passed both entry None = not both && is_pass entry.verdict
+is_passed both entry (Some first) = is_pass first.verdict && is_pass entry.verdict
+
+-- the frame has these octets, and is of this time
+abbrev pub is_copy : (octets : List ℕ) → (seconds fraction : ℕ) → (frame : Packet) → Bool
+is_copy octets seconds fraction frame = bytes_eq octets frame.octets && (frame.seconds == seconds) && (frame.fraction == fraction)
+
+-- there is exactly one frame, and it is such a copy
+abbrev pub is_only_copy : (octets : List ℕ) → (seconds fraction : ℕ) → (frames : List Packet) → Bool
+is_only_copy octets seconds fraction [] = false
+is_only_copy octets seconds fraction (frame ∷ []) = is_copy octets seconds fraction frame
+is_only_copy octets seconds fraction (frame ∷ other ∷ older) = false
+
+-- one frame was written for the record, with its octets and its time
+abbrev pub is_unchanged : Item → Bool
+is_unchanged item = is_only_copy item.packet.octets item.packet.seconds item.packet.fraction item.frames
+
+-- a line of the first engine: no line of the second is to come before it, and it has the next
+-- number
 pub record IsFirstLine (form : Form) (older : List Item) (item : Item) : Type 0 where
   pub none_owed : owed_of older ≡ 0
   pub alone : item.first ≡ None
@@ -114,19 +139,22 @@ pub record IsFirstLine (form : Form) (older : List Item) (item : Item) : Type 0 
   pub frames : length item.frames ≡ own_frames form item.entry.packets
   pub owes : item.owed ≡ answers form item.entry.packets
 
--- a line of the second engine: it is one of those that are wanting for the newest record, and has the next number
+-- a line of the second engine: it is one of those that are to come for the newest record, and has
+-- the next number
 pub record IsSecondLine (older : List Item) (item : Item) : Type 0 where
   pub owes : owed_of older ≡ item.owed + 1
   pub newest : IsOfNewest older item
   pub number : item.entry.number ≡ length (seconds older) + 1
   pub frames : length item.frames ≡ item.entry.packets
 
--- the line comes behind these: its entry is one of a report of this form, and it is the next of its engine
+-- The line follows these: its entry is one of a report of this form, and it is the next of its
+-- engine. A record that was passed was written as it is.
 pub record ComesBehind (form : Form) (older : List Item) (item : Item) : Type 0 where
   pub fits : IsEntryOf (version_of form) item.entry
   pub turn : IsFirstLine form older item ⊎ IsSecondLine older item
+  pub unchanged : is_passed (is_both form) item.entry item.first ≡ true → is_unchanged item ≡ true
 
--- each line comes behind those before it
+-- each line follows those before it
 abbrev pub AreItems : (form : Form) → List Item → Type 0
 AreItems form [] = Unit {0}
 AreItems form (item ∷ older) = ComesBehind form older item × AreItems form older
@@ -135,7 +163,8 @@ AreItems form (item ∷ older) = ComesBehind form older item × AreItems form ol
 abbrev pub end_text : List Item → List ℕ
 end_text items = last_text (End (length (firsts items)) (length (frames_of items)))
 
--- a time in nanoseconds since 1970: the fraction counts nanoseconds or microseconds, as the head says, and may reach into the seconds
+-- a time in nanoseconds since 1970: the fraction counts nanoseconds or microseconds, as the head
+-- says, and may reach into the seconds
 abbrev pub nanoseconds : Head → (seconds fraction : ℕ) → ℕ
 nanoseconds head seconds fraction = seconds * 1000000000 + fraction * (if head.nano then 1 else 1000)
 
@@ -146,7 +175,7 @@ time_of head packet = nanoseconds head packet.seconds packet.fraction
 unfoldable pub flow_at : Link → (octets : List ℕ) → Option Flow
 flow_at link octets = flow_in link octets
 
--- the type field of the link header, where that is there
+-- the type field of the link header, where that is present
 abbrev pub type_in : Link → (octets : List ℕ) → Option ℕ
 type_in Raw octets = None
 type_in Ethernet octets = if nat_lt (length octets) 14 then None else Some (ethertype octets)
@@ -160,7 +189,8 @@ type_without None link octets = type_in link octets
 unfoldable pub length_at : Link → (octets : List ℕ) → ℕ
 length_at link octets = length_in link octets
 
--- what differs between a record and the frame of this number; or what the frame is, where norm made it itself
+-- what differs between a record and the frame of this number; or what the frame is, where norm made
+-- it itself
 unfoldable pub changes_at : Link → Kinds → (number : ℕ) → (octets frame : List ℕ) → List PlainChange
 changes_at link kinds number octets frame =
     elim (made_at kinds number) [ Some kind ↦ made_of link number frame kind ∷ [] | None ↦ changes_of link number octets frame ]

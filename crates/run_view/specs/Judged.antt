@@ -4,7 +4,7 @@ use Rattle.std.specs.List.{list_any}
 use Rattle.rule_book.specs.Entries.{PlainEntry}
 use Rattle.rule_book.specs.Rules.{rule_number}
 use Rattle.rule_book.specs.declared.entry.Verdict.{Verdict}
-use Rattle.rule_book.specs.declared.entry.Verdict.TheVariants.{Drop}
+use Rattle.rule_book.specs.declared.entry.Verdict.TheVariants.{Drop, Pass}
 use Rattle.rule_book.specs.declared.rule.Rule.{Rule}
 use Rattle.rule_book.specs.declared.rule.Rule.TheVariants.{CProbe, FDone}
 use Rattle.frame_view.specs.declared.change.Made.{Made}
@@ -24,20 +24,26 @@ abbrev pub is_drop : Verdict → Bool
 is_drop Drop = true
 is_drop _ = false
 
+abbrev pub is_pass : Verdict → Bool
+is_pass Pass = true
+is_pass _ = false
+
 -- what the first engine said of a record, as far as it is kept
 abbrev pub judged_by : PlainEntry → Judged
 judged_by entry =
-    record { number = entry.number; side = entry.side; era = entry.era; dropped = is_drop entry.verdict; probe = names CProbe entry; datagram = names FDone entry }
+    record { number = entry.number; side = entry.side; era = entry.era; passed = is_pass entry.verdict; dropped = is_drop entry.verdict; probe = names CProbe entry; datagram = names FDone entry }
 
--- Which frames of a line norm made itself: what is written for a dropped record is a probe in its place; where the line names C_PROBE, the last one is a probe,
--- since a probe is written last; where it names F_DONE, a datagram, or parts of it, was written in place of the record. `probe` and `datagram` say so of each
--- of them already.
+-- Which frames of a line norm made itself. What is written for a dropped record is a probe. If the
+-- line names C_PROBE, the last frame is a probe, since a probe is written last. If it names
+-- F_DONE, a datagram, or parts of it, was written in place of the record. `probe` and `datagram`
+-- report this of each of them already.
 abbrev pub kinds_by : PlainEntry → (probe datagram : Bool) → Kinds
 kinds_by entry probe datagram =
     record { packets = entry.packets; probe_last = names CProbe entry; probe = probe || is_drop entry.verdict; datagram = datagram || names FDone entry }
 
--- The same with the first engine's entry of the record of a line of the second: if it dropped the record, each frame is a probe; if it names C_PROBE, each frame
--- of the record's last line is one; if it names F_DONE, each other frame is a datagram.
+-- The same with the first engine's entry of the record of a line of the second. If it dropped the
+-- record, each frame is a probe. If it names C_PROBE, each frame of the record's last line is one.
+-- If it names F_DONE, each other frame is a datagram.
 abbrev pub kinds_of : PlainEntry → (first : Option PlainEntry) → (owed : ℕ) → Kinds
 kinds_of entry None owed = kinds_by entry false false
 kinds_of entry (Some first) owed = kinds_by entry (is_drop first.verdict || (names CProbe first && (owed == 0))) (names FDone first)

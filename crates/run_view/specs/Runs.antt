@@ -1,5 +1,6 @@
--- The files of a finished run, and what three sources have of them (this project's profile). Lists of items have the newest at the head. A source that is
--- None has no known octets; nothing is claimed of it.
+-- The files of a finished run, and what three sources have of them (this project's profile). Lists
+-- of items have the newest at the head. A source that is None has no known octets; nothing is
+-- claimed of it.
 use Rattle.std.specs.Prelude.{◌≡◌, ◌≢◌, ◌⊎◌, ℕ, List, ◌++◌, Option, Some, None, Ok, IfSome}
 use Rattle.edge_io.specs.Faults.{Rose}
 use Rattle.edge_io.specs.Seen.{Seen, seen_of}
@@ -13,7 +14,7 @@ use Rattle.run_view.specs.declared.form.Form.{Form}
 use Rattle.run_view.specs.Forms.{heading}
 use Rattle.run_view.specs.Items.{AreItems, Item, end_text, frames_of, lines_of, lines_text, owed_of, packets_of}
 
--- the octets of the three sources, where they tell them
+-- the octets of the three sources, where they are known
 pub record Sources : Type 0 where
   pub input : Option (List ℕ)
   pub output : Option (List ℕ)
@@ -53,7 +54,8 @@ faults_of moment = counts_of moment.input.faults moment.output.faults moment.rep
 abbrev pub sources_at : Moment → Sources
 sources_at moment = sources_of moment.input.octets moment.output.octets moment.report.octets
 
--- one of the three sources failed: its count of faults rose, or is at its last value, as wherever it is said that a source or the output failed
+-- one of the three sources failed: its count of faults rose, or is at its last value, as wherever
+-- it is said that a source or the output failed
 abbrev pub SourceRose : (before now : FaultCounts) → Type 0
 SourceRose before now = Rose before.input now.input ⊎ Rose before.output now.output ⊎ Rose before.report now.report
 
@@ -67,7 +69,8 @@ pub record HasHead (octets : List ℕ) (head : Head) : Type 0 where
 abbrev pub report_of : (form : Form) → (items : List Item) → List ℕ
 report_of form items = heading form ++ lines_text (lines_of items) ++ end_text items
 
--- the three files are those of a finished run: a capture, another of the same link, and the report, of the same items
+-- the three files are those of a finished run: a capture, another of the same link, and the report,
+-- of the same items
 pub record AreOfARun (input output report : List ℕ) : Type 0 where
   pub head : Head
   pub written : Head
@@ -80,15 +83,15 @@ pub record AreOfARun (input output report : List ℕ) : Type 0 where
   pub frames : IsCapture output written (frames_of items)
   pub lines : report ≡ report_of form items
 
--- the three sources, where all tell their octets, are not those of a finished run
+-- the three sources, where all octets are known, are not those of a finished run
 abbrev pub AreNoRun : Sources → Type 0
 AreNoRun s = (input output report : List ℕ) → s ≡ sources_of (Some input) (Some output) (Some report) → AreOfARun input output report → ⊥
 
--- the same, where the report has been read behind its first line
+-- the same, where the report has been read after its first line
 abbrev pub AreNoRest : Form → Sources → Type 0
 AreNoRest form s = (input output rest : List ℕ) → s ≡ sources_of (Some input) (Some output) (Some rest) → AreOfARun input output (heading form ++ rest) → ⊥
 
--- the input, where it tells its octets, is no capture
+-- the input, where its octets are known, is no capture
 abbrev pub IsNoInput : (input : Option (List ℕ)) → Type 0
 IsNoInput input = IfSome input (λ octets. (head : Head) (packets : List Packet) → IsInput None octets head packets → ⊥)
 
@@ -96,18 +99,18 @@ IsNoInput input = IfSome input (λ octets. (head : Head) (packets : List Packet)
 abbrev pub IsNoCapture : (output : Option (List ℕ)) → Type 0
 IsNoCapture output = IfSome output (λ octets. (head : Head) (frames : List Packet) → IsCapture octets head frames → ⊥)
 
--- the output, where it is told, has a head of another link than this
+-- the output, where it is known, has a head whose link is not this one
 pub record IsOfOtherLink (link : Link) (output : Option (List ℕ)) : Type 0 where
   pub head : Head
   pub accepted : IfSome output (λ octets. head_of octets ≡ Ok head)
   pub other : head.link ≢ link
 
--- the heads of input and output, where they are told, have two links
+-- the heads of input and output, where they are known, have two links
 pub record HaveTwoLinks (input output : Option (List ℕ)) : Type 0 where
   pub head : Head
   pub begins : IfSome input (λ octets. HasHead octets head)
   pub other : IsOfOtherLink head.link output
 
--- the output is no capture, or it has another link than the input
+-- the output is no capture, or its link differs from the input's
 abbrev pub IsNoOutput : Sources → Type 0
 IsNoOutput s = IsNoCapture s.output ⊎ HaveTwoLinks s.input s.output

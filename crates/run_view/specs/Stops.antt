@@ -10,7 +10,8 @@ use Rattle.run_view.specs.declared.form.Form.{Form}
 use Rattle.run_view.specs.declared.stop.Stop.{Stop}
 use Rattle.run_view.specs.declared.stop.Stop.TheVariants as stops
 
--- a capture that ends inside its head, a record or a block has another status than one with another fault
+-- a capture that ends inside its head, a record or a block has a status that differs from that of
+-- any other fault
 abbrev pub fault_status : InputFault → ℕ
 fault_status faults.Cut = 4
 fault_status faults.Magic = 3
@@ -33,15 +34,16 @@ status_of stops.Unwritten = 7
 status_of stops.Memory = 8
 status_of (stops.Report line) = 9
 
--- the stop at a fault of the input, or of the output; a failure of a source is no fault of its octets
+-- the stop at a fault of the input, or of the output; a failure of a source is no fault of its
+-- octets
 abbrev pub input_stop : InputFault → (offset : ℕ) → Stop
 input_stop fault offset = if is_read_fault fault then stops.Unread else stops.Input fault offset
 
 abbrev pub output_stop : InputFault → (offset : ℕ) → Stop
 output_stop fault offset = if is_read_fault fault then stops.Unread else stops.Output fault offset
 
--- what a stop says: the words are refused, the files are those of no run, the input or the output is none, a source or the output failed; nothing is claimed
--- of memory
+-- what a stop says: invalid arguments, the files are those of no run, the input or the output is no
+-- capture, a source or the output failed; nothing is claimed of memory
 abbrev pub Meaning : (refused no_run no_input no_output unread unwritten : Type 0) → Stop → Type 0
 Meaning refused no_run no_input no_output unread unwritten stops.Words = refused
 Meaning refused no_run no_input no_output unread unwritten (stops.Record number) = no_run
@@ -60,7 +62,7 @@ pub record Says (refused no_run no_input no_output unread unwritten : Type 0) (s
 abbrev pub FilesStop : (s : Sources) (before now : FaultCounts) → Stop → Type 0
 FilesStop s before now = Says ⊥ (AreNoRun s) (IsNoInput s.input) (IsNoOutput s) (SourceRose before now) (Rose before.out now.out)
 
--- why one stops behind the first line of the report, which is read so
+-- why one stops after the first line of the report, which is read so
 abbrev pub RestStop : Form → (s : Sources) (before now : FaultCounts) → Stop → Type 0
 RestStop form s before now = Says ⊥ (AreNoRest form s) (IsNoInput s.input) (IsNoCapture s.output) (SourceRose before now) (Rose before.out now.out)
 

@@ -1,4 +1,5 @@
--- The words of `normview` (this project's profile): options, each at most once, and then the names of three files. A word is the list of its octets.
+-- The words of `normview` (this project's profile): options, each at most once, and then the names
+-- of three files. A word is the list of its octets.
 use Rattle.std.specs.Prelude.{ℕ, ◌==◌, ◌&&◌, not, get_or, slice_set, replicate, Bool, true, false, List, [], ◌∷◌, Option, Some, None, option_map, codes, if◌then◌else◌}
 use Rattle.std.specs.List.{list_any, slice_split}
 use Rattle.std.specs.Result.{result_ok}
@@ -17,12 +18,14 @@ use Rattle.run_view.specs.declared.words.Asked.{Asked}
 use Rattle.run_view.specs.declared.words.Choice.{Choice}
 use Rattle.run_view.specs.declared.words.Choice.TheVariants.{ByTable, ByRule, ByEra, ByVerdict, BySide, ByHost}
 use Rattle.run_view.specs.declared.words.EraAsked.{EraAsked}
+use Rattle.run_view.specs.declared.words.Mark.{Mark}
+use Rattle.run_view.specs.declared.words.Mark.TheVariants.{AsJson, AsNotes, AsEvidence, AsSummary}
 use Rattle.run_view.specs.declared.words.Print.{Print}
 use Rattle.run_view.specs.declared.words.Print.TheVariants as prints
 
 -- nothing is asked for
 abbrev pub nothing_asked : Asked
-nothing_asked = record { print = prints.Text; rules = None; era = None; verdicts = None; sides = None; host = None }
+nothing_asked = record { print = prints.Text; rules = None; era = None; verdicts = None; sides = None; host = None; evidence = false; summary = false }
 
 -- the options with a value, in the order of the table
 abbrev pub all_choices : List Choice
@@ -53,7 +56,8 @@ side_named word =
     else if bytes_eq word (codes "-") then Some None
     else None
 
--- the place of a name in the list of a choice: the number of a rule, or the place of a verdict or side
+-- the place of a name in the list of a choice: the number of a rule, or the place of a verdict or
+-- side
 abbrev pub place_named : Choice → Text → Option ℕ
 place_named ByRule name = option_map rule_number (rule_named name)
 place_named ByVerdict name = option_map verdict_place (verdict_named name)
@@ -105,7 +109,8 @@ table_named word =
     else if bytes_eq word (codes "eras") then Some prints.Eras
     else None
 
--- what is printed where both are asked for: notes go with JSON, and else nothing goes with anything but text
+-- what is printed where both are asked for: notes go with JSON, and else nothing goes with anything
+-- but text
 abbrev pub both_printed : (first second : Print) → Option Print
 both_printed prints.Text print = Some print
 both_printed prints.Json prints.Notes = Some prints.JsonNotes
@@ -122,7 +127,8 @@ abbrev pub once : {T : Type 0} → (before given : Option T) → Option T
 once None given = given
 once (Some before) given = None
 
--- one more option with this value; None if the value is none of this option, or the option does not go with those before
+-- one more option with this value; None if the value is none of this option, or the option does not
+-- go with those before
 abbrev pub with_choice : Choice → Asked → (value : Text) → Option Asked
 with_choice ByTable asked value = with_print asked (table_named value)
 with_choice ByRule asked value = option_map (λ names. record asked { rules = Some names }) (once asked.rules (listed ByRule value))
@@ -131,10 +137,17 @@ with_choice ByVerdict asked value = option_map (λ names. record asked { verdict
 with_choice BySide asked value = option_map (λ names. record asked { sides = Some names }) (once asked.sides (listed BySide value))
 with_choice ByHost asked value = option_map (λ prefix. record asked { host = Some prefix }) (once asked.host (host_named value))
 
--- what a word is: `--json`, `--notes`, an option with its value behind `=`, an option whose value is the next word, the first of the names, or none of these
+-- one more option without a value; None if it was given before, or does not go with those before
+abbrev pub with_mark : Mark → Asked → Option Asked
+with_mark AsJson asked = with_print asked (Some prints.Json)
+with_mark AsNotes asked = with_print asked (Some prints.Notes)
+with_mark AsEvidence asked = if asked.evidence then None else Some (record asked { evidence = true })
+with_mark AsSummary asked = if asked.summary then None else Some (record asked { summary = true })
+
+-- what a word is: an option without a value, an option with its value after `=`, an option whose
+-- value is the next word, the first of the names, or none of these
 pub data Word : Type 0 where
-  json : Word
-  notes : Word
+  marked : Mark → Word
   joined : Choice → Text → Word
   parted : Choice → Word
   name : Word
@@ -144,37 +157,46 @@ pub data Word : Type 0 where
 abbrev pub is_json : Text → Bool
 is_json word = bytes_eq word (codes "--json")
 
--- JSON is asked for, also by words that are refused
+-- JSON is asked for, even by invalid arguments
 abbrev pub asks_json : List Text → Bool
 asks_json words = list_any is_json words
 
--- the option with the text behind its name: nothing, or `=` (61) and a value; None if it is neither
+-- the option with the text after its name: nothing, or `=` (61) and a value; None if it is neither
 abbrev pub word_by : Choice → Option Text → Option Word
 word_by choice None = None
 word_by choice (Some []) = Some (parted choice)
 word_by choice (Some (octet ∷ value)) = if octet == 61 then Some (joined choice value) else None
 
--- the first of the options of which the word is a use
+-- the first option that the word uses
 abbrev pub word_in : List Choice → Text → Word
 word_in [] word = unknown
 word_in (choice ∷ choices) word = elim (word_by choice (after_front (name_of choice) word)) [ Some met ↦ met | None ↦ word_in choices word ]
+
+-- the option without a value of this name
+abbrev pub mark_named : Text → Option Mark
+mark_named word =
+    if is_json word then Some AsJson
+    else if bytes_eq word (codes "--notes") then Some AsNotes
+    else if bytes_eq word (codes "--evidence") then Some AsEvidence
+    else if bytes_eq word (codes "--summary") then Some AsSummary
+    else None
 
 -- a word that begins with `-` (45) is an option, or none
 abbrev pub word_of : Text → Word
 word_of word =
     if begins_with_dash word
-    then (if is_json word then json else if bytes_eq word (codes "--notes") then notes else word_in all_choices word)
+    then elim (mark_named word) [ Some mark ↦ marked mark | None ↦ word_in all_choices word ]
     else name
 
--- a table of all eras has no conditions, and neither have notes
+-- a table of all eras has no conditions, and neither have notes; a summary is of a text or of JSON
 abbrev pub go_together : Asked → Bool
 go_together asked = elim asked.print [
   | prints.Text ↦ true
   | prints.Json ↦ true
-  | prints.Records ↦ true
-  | prints.Eras ↦ not (has_choice asked)
-  | prints.Notes ↦ not (has_choice asked)
-  | prints.JsonNotes ↦ not (has_choice asked)
+  | prints.Records ↦ not asked.summary
+  | prints.Eras ↦ not (has_choice asked) && not asked.summary
+  | prints.Notes ↦ not (has_choice asked) && not asked.summary
+  | prints.JsonNotes ↦ not (has_choice asked) && not asked.summary
 ]
 
 -- three names, none of them empty and none beginning with `-`
@@ -183,18 +205,18 @@ with_names asked (input ∷ output ∷ report ∷ []) =
     if is_name input && is_name output && is_name report && go_together asked then Some asked else None
 with_names asked _ = None
 
--- a word behind an option that waits for its value is that value
+-- a word after an option that waits for its value is that value
 abbrev pub next_word : (waiting : Option Choice) → Text → Word
 next_word (Some choice) word = joined choice word
 next_word None word = word_of word
 
--- what words ask for, with what others before them asked for; if an option waits for its value, the first of them is that value
+-- what words ask for, with what others before them asked for; if an option waits for its value, the
+-- first of them is that value
 abbrev pub asked_from : (waiting : Option Choice) → Asked → List Text → Option Asked
 asked_from waiting asked [] = None
 asked_from waiting asked (word ∷ words) =
     elim (next_word waiting word) [
-      | json ↦ elim (with_print asked (Some prints.Json)) [ Some more ↦ asked_from None more words | None ↦ None ]
-      | notes ↦ elim (with_print asked (Some prints.Notes)) [ Some more ↦ asked_from None more words | None ↦ None ]
+      | marked mark ↦ elim (with_mark mark asked) [ Some more ↦ asked_from None more words | None ↦ None ]
       | joined choice value ↦ elim (with_choice choice asked value) [ Some more ↦ asked_from None more words | None ↦ None ]
       | parted choice ↦ asked_from (Some choice) asked words
       | name ↦ with_names asked (word ∷ words)

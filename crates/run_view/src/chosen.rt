@@ -1,4 +1,4 @@
-//! Which records are printed.
+//! Which records are chosen.
 ghost use Rattle.std.specs.Prelude.{◌≡◌, ◌<◌};
 ghost use Rattle.rule_book.specs.Entries.{plain};
 ghost use Rattle.run_view.specs.Chosen as spec;
@@ -6,12 +6,13 @@ ghost use Rattle.run_view.specs.Judged.{is_among as is_among_these};
 ghost use Rattle.run_view.specs.Items.{flow_at as flow_there};
 ghost use Rattle.wire_base.specs.Prefixes as prefixes;
 
-use crate::seen::flow_at;
+use crate::compare::flow_at;
+use crate::judged::is_pass;
 use crate::values::{Names, side_place, verdict_place};
 use crate::words::{Asked, EraAsked, Print};
 use frame_view::Flow;
 use rule_book::{Ended, Entry, Rule};
-use wire_base::{Addr, Link, Prefix};
+use wire_base::{Addr, Link, Prefix, Side};
 
 /// Which conditions the lines of a record meet; a condition that is not given is met.
 #[derive(Clone, Copy)]
@@ -21,6 +22,7 @@ pub(crate) struct Meets {
     pub(crate) verdict: bool,
     pub(crate) side: bool,
     pub(crate) host: bool,
+    pub(crate) evidence: bool,
 }
 
 /// Returns whether a condition is given.
@@ -32,12 +34,13 @@ pub(crate) fn has_choice(asked: &Asked) -> bool
         || asked.verdicts.is_some()
         || asked.sides.is_some()
         || asked.host.is_some()
+        || asked.evidence
 }
 
-/// Returns whether records are printed.
+/// Returns whether records are chosen.
 #[inline(always)]
-pub(crate) fn prints_records(asked: &Asked) -> bool
-    ensures { result ≡ spec.prints_records asked.now }
+pub(crate) fn chooses_records(asked: &Asked) -> bool
+    ensures { result ≡ spec.chooses_records asked.now }
 {
     match asked.print {
         Print::Text => has_choice(asked),
@@ -52,13 +55,15 @@ pub(crate) fn met_by(asked: &Asked, second: bool, entry: &Entry, link: Link, oct
     ensures { result ≡ spec.met_by asked.now second (plain entry.now) (flow_there link octets.now) }
 {
     let side = is_listed(&asked.sides, side_place(entry.side));
-    let host = has_host(asked.host, link, octets);
+    let host = has_host(asked.host, asked.evidence, link, octets);
+    let evidence = is_evidence(entry);
     Meets {
         rule: names_rule(&asked.rules, entry.rules.as_slice()),
         era: names_era(asked.era, second, entry),
         verdict: is_listed(&asked.verdicts, verdict_place(entry.verdict)),
         side: !second && side,
         host: !second && host,
+        evidence: !asked.evidence || evidence,
     }
 }
 
@@ -72,6 +77,7 @@ pub(crate) fn either(one: Meets, other: Meets) -> Meets
         verdict: one.verdict | other.verdict,
         side: one.side | other.side,
         host: one.host | other.host,
+        evidence: one.evidence | other.evidence,
     }
 }
 
@@ -85,6 +91,7 @@ pub(crate) fn nothing_met() -> Meets
         verdict: false,
         side: false,
         host: false,
+        evidence: false,
     }
 }
 
@@ -99,7 +106,7 @@ pub(crate) fn meets_record(met: Meets) -> bool
 pub(crate) fn meets_all(met: Meets) -> bool
     ensures { result ≡ spec.meets_all met }
 {
-    met.rule && met.era && met.verdict && meets_record(met)
+    met.rule && met.era && met.verdict && met.evidence && meets_record(met)
 }
 
 // Returns whether the name at this place is among these, if names are given.
@@ -147,8 +154,8 @@ pub(crate) fn is_among(rules: &[Rule], number: u8) -> bool
     false
 }
 
-// Returns whether a line is one of the engine of the era, and its entry belongs to the era, began it
-// or ended it, if an era is given.
+// Returns whether a line is one of the engine of the era, and its entry belongs to the era, began
+// it or ended it, if an era is given.
 fn names_era(era: Option<EraAsked>, second: bool, entry: &Entry) -> bool
     ensures { result ≡ spec.names_era era second (plain entry.now) }
 {
@@ -178,23 +185,39 @@ fn has_ended(ended: &[Ended], era: u32) -> bool
     ended.iter().any(|one| one.era == era)
 }
 
-// Returns whether source or destination of a record lies in the prefix, if one is given.
-fn has_host(host: Option<Prefix>, link: Link, octets: &[u8]) -> bool
-    ensures { result ≡ spec.has_host host (flow_there link octets.now) }
+// Returns whether source or destination of a record is in the prefix, if one is given; for a record
+// whose IPv4 header cannot be read, whether such records count.
+fn has_host(host: Option<Prefix>, unreadable: bool, link: Link, octets: &[u8]) -> bool
+    ensures { result ≡ spec.has_host host unreadable (flow_there link octets.now) }
 {
     match host {
-        Some(prefix) => is_of(prefix, flow_at(link, octets)),
+        Some(prefix) => match flow_at(link, octets) {
+            Some(flow) => is_of(prefix, flow),
+            None => unreadable,
+        },
         None => true,
     }
 }
 
-fn is_of(prefix: Prefix, flow: Option<Flow>) -> bool
+fn is_of(prefix: Prefix, flow: Flow) -> bool
     ensures { result ≡ spec.is_of prefix flow }
 {
-    match flow {
-        Some(flow) => holds(prefix, flow.src) || holds(prefix, flow.dst),
-        None => false,
-    }
+    holds(prefix, flow.src) || holds(prefix, flow.dst)
+}
+
+/// Returns whether a line is inbound or has no side, and is not `pass`.
+pub(crate) fn is_evidence(entry: &Entry) -> bool
+    ensures { result ≡ spec.is_evidence (plain entry.now) }
+{
+    let passed = is_pass(entry.verdict);
+    !is_outward(entry.side) && !passed
+}
+
+/// Returns whether the side is outward.
+pub(crate) fn is_outward(side: Option<Side>) -> bool
+    ensures { result ≡ spec.is_outward side }
+{
+    matches!(side, Some(Side::Outward))
 }
 
 // Returns whether the first bits of the address are those of the prefix.

@@ -3,12 +3,12 @@ ghost use Rattle.std.specs.Prelude.{◌≡◌, List, ℕ, IfErr, OnOk};
 ghost use Rattle.std.specs.declared.option.Option.{Option};
 ghost use Rattle.edge_io.specs.Faults.{RisesOnlyAtErr};
 ghost use Rattle.pcap_file.specs.declared.head.Head.{Head};
-ghost use Rattle.run_view.specs.Ahead.{left_in};
+ghost use Rattle.run_view.specs.ReadAhead.{left_in};
 ghost use Rattle.run_view.specs.Events.{Event};
-ghost use Rattle.run_view.specs.Gives.{AreOver};
+ghost use Rattle.run_view.specs.Contents.{AreOver};
 ghost use Rattle.run_view.specs.Progress.{EndStop, HasEnded};
 ghost use Rattle.run_view.specs.Runs.{counts_of, sources_of};
-ghost use Rattle.run_view.specs.SoFar.{Closes, Ends, MayTake, ends_of};
+ghost use Rattle.run_view.specs.ViewerAt.{Closes, Ends, MayTake, ends_of};
 
 use crate::Stop;
 use crate::sources::{next_frame, next_record};

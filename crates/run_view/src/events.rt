@@ -136,8 +136,8 @@ impl<K: Sink + Drop> Events for Printer<K> {
     }
 }
 
-/// Events in memory, which are known. Text that is no event is left out, and no call but for want of
-/// memory fails.
+/// Events in memory, which are known. Text that is no event is left out, and a call fails only if
+/// memory could not be allocated.
 #[derive(Drop)]
 pub struct MemEvents {
     pub events: Vec<Event>,

@@ -2,7 +2,7 @@
 ghost use Rattle.std.specs.Prelude.{◌≡◌, IfErr, IfOk, IfSome};
 ghost use Rattle.std.specs.Io.KnownBytes.{Consumes};
 ghost use Rattle.edge_io.specs.Faults.{RisesOnlyAtErr, Rose};
-ghost use Rattle.run_view.specs.Ahead.{left_in};
+ghost use Rattle.run_view.specs.ReadAhead.{left_in};
 ghost use Rattle.run_view.specs.Forms as spec;
 ghost use Rattle.run_view.specs.Stops.{IsNoFirst, Says};
 
@@ -74,7 +74,8 @@ pub(crate) fn own_frames(form: Form, packets: u8) -> u8
     }
 }
 
-/// Returns how many lines of a second engine follow a line of the first that names so many frames.
+/// Returns how many lines of a second engine follow a line of the first that names this number of
+/// frames.
 pub(crate) fn answers(form: Form, packets: u8) -> u8
     ensures { result ≡ spec.answers form packets }
 {

@@ -1,6 +1,7 @@
 //! What a line says of the record and of its frames.
-ghost use Rattle.std.specs.Prelude.{◌≡◌, ◌==◌, ◌&&◌, ◌||◌};
+ghost use Rattle.std.specs.Prelude.{◌≡◌, ◌==◌, ◌&&◌, ◌||◌, None};
 ghost use Rattle.rule_book.specs.Entries.{plain};
+ghost use Rattle.run_view.specs.Items.{is_passed};
 ghost use Rattle.run_view.specs.Judged as spec;
 
 use crate::chosen::is_among;
@@ -8,12 +9,13 @@ use frame_view::Made;
 use rule_book::{Entry, Rule, Verdict};
 use wire_base::Side;
 
-/// What the first engine said of a record, as far as lines of the second want it.
+/// What the first engine said of a record, as far as lines of the second need it.
 #[derive(Clone, Copy)]
 pub(crate) struct Judged {
     pub(crate) number: u32,
     pub(crate) side: Option<Side>,
     pub(crate) era: Option<u32>,
+    pub(crate) passed: bool,
     /// It was dropped: what was written for it is a probe.
     pub(crate) dropped: bool,
     /// A probe is the last of what was written for it.
@@ -39,6 +41,7 @@ pub(crate) struct Kinds {
 pub(crate) fn judged_by(entry: &Entry) -> Judged
     ensures { result ≡ spec.judged_by (plain entry.now) }
 {
+    let passed = is_pass(entry.verdict);
     let dropped = is_drop(entry.verdict);
     let probe = names(entry, Rule::CProbe);
     let datagram = names(entry, Rule::FDone);
@@ -46,14 +49,15 @@ pub(crate) fn judged_by(entry: &Entry) -> Judged
         number: entry.number,
         side: entry.side,
         era: entry.era,
+        passed,
         dropped,
         probe,
         datagram,
     }
 }
 
-/// Returns which frames of a line norm made itself. Each is a probe, or a datagram, also if this
-/// says so.
+/// Returns which frames of a line norm made itself. Each is also a probe if `probe` is set, and a
+/// datagram if `datagram` is.
 pub(crate) fn kinds_by(entry: &Entry, probe: bool, datagram: bool) -> Kinds
     ensures { result ≡ spec.kinds_by (plain entry.now) probe datagram }
 {
@@ -68,7 +72,8 @@ pub(crate) fn kinds_by(entry: &Entry, probe: bool, datagram: bool) -> Kinds
     }
 }
 
-/// Returns the same of a line of the second engine, before so many others for the same record.
+/// Returns the same of a line of the second engine, before this number of others for the same
+/// record.
 pub(crate) fn second_kinds(entry: &Entry, judged: Judged, owed: u8) -> Kinds
     ensures { result ≡ spec.kinds_by (plain entry.now) (judged.dropped || (judged.probe && (owed == 0))) judged.datagram }
 {
@@ -81,6 +86,30 @@ fn is_drop(verdict: Verdict) -> bool
     ensures { result ≡ spec.is_drop verdict }
 {
     matches!(verdict, Verdict::Drop)
+}
+
+/// Returns whether the verdict is pass.
+pub(crate) fn is_pass(verdict: Verdict) -> bool
+    ensures { result ≡ spec.is_pass verdict }
+{
+    matches!(verdict, Verdict::Pass)
+}
+
+/// Returns whether a line of the first engine says that its frames are copies of the record: not
+/// where they went to a second one.
+pub(crate) fn is_passed_first(both: bool, entry: &Entry) -> bool
+    ensures { result ≡ is_passed both (plain entry.now) None }
+{
+    let passed = is_pass(entry.verdict);
+    !both && passed
+}
+
+/// Returns whether both engines report that the record passed.
+pub(crate) fn is_passed_second(judged: Judged, entry: &Entry) -> bool
+    ensures { result ≡ (judged.passed && spec.is_pass (plain entry.now).verdict) }
+{
+    let passed = is_pass(entry.verdict);
+    judged.passed && passed
 }
 
 // Returns whether an entry names the rule.

@@ -15,13 +15,13 @@ pub(crate) const LINE_ROOM: usize = 400;
 /// The room for octets that are read ahead.
 const ROOM: usize = 4_096;
 
-/// The octets of a report that were read ahead, and the newest line, which stands before them.
+/// The octets of a report that were read ahead, and the newest line, which precedes them.
 #[derive(Drop)]
 pub(crate) struct Lines {
     buffer: Box<[u8; ROOM]>,
     /// The offset of the newest line in the buffer.
     line: usize,
-    /// The offset behind the newest line, where the octets that were read ahead begin.
+    /// The offset after the newest line, where the octets that were read ahead begin.
     start: usize,
     filled: usize,
     ghost behind: { line ≤ start },
@@ -30,7 +30,7 @@ pub(crate) struct Lines {
 }
 
 impl Lines {
-    ghost use Rattle.run_view.specs.Ahead.{GoesOn, HasEnough, TookLine, ahead_in, left_in, line_in};
+    ghost use Rattle.run_view.specs.ReadAhead.{GoesOn, HasEnough, TookLine, ahead_in, left_in, line_in};
 
     /// Creates a buffer without octets read ahead.
     pub(crate) fn new(alloc: Global) -> Result<Lines, NoMemory>
@@ -45,8 +45,8 @@ impl Lines {
         })
     }
 
-    /// Moves to the next line, with its line feed: at most 400 octets, and all that are left if they
-    /// have no line feed.
+    /// Moves to the next line, with its line feed: at most 400 octets, and all that are left if
+    /// they have no line feed.
     pub(crate) fn next<R: Source>(&mut self, source: &mut R) -> Result<(), Failed>
         ensures short { OnOk result (length (line_in self.new) ≤ 400) }
         ensures line { OnOk result (TookLine (left_in self.old (R.left source.old)) (left_in self.new (R.left source.new)) (line_in self.new)) }
@@ -67,8 +67,8 @@ impl Lines {
         &self.buffer[self.line..self.start]
     }
 
-    /// Returns whether octets stand behind the newest line. What is left stays, but the newest line
-    /// may be lost.
+    /// Returns whether octets follow the newest line. What is left stays, but the newest line may
+    /// be lost.
     pub(crate) fn goes_on<R: Source>(&mut self, source: &mut R) -> Result<bool, Failed>
         ensures more { IfOk result (λ more. GoesOn more (left_in self.old (R.left source.old))) }
         ensures unread { OnErr result (TakesFewer (left_in self.old (R.left source.old)) (R.left source.new) 4096) }

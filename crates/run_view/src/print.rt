@@ -1,4 +1,4 @@
-//! What is printed of a run beside its events: headings, a summary, eras, notes and stops.
+//! What is printed of a run besides its events: headings, a summary, eras, notes and stops.
 ghost use Rattle.std.specs.Prelude.{◌≡◌, ◌≤◌, false, IfErr, IfOk};
 ghost use Rattle.edge_io.specs.Faults.{RisesOnlyAtErr, Rose};
 ghost use Rattle.run_view.specs.Stops.{OutStop};
@@ -8,7 +8,7 @@ use crate::Stop;
 use crate::eras::{EraRow, Eras};
 use crate::events::Events;
 use crate::tally::{Tally, era_counts};
-use crate::words::Print;
+use crate::words::{Asked, Print};
 use edge_io::NoMemory;
 use rule_book::{Ended, Reason};
 use run_notes::has_warning;
@@ -54,7 +54,7 @@ pub(crate) fn flush<E: Events>(out: &mut E) -> Result<(), Stop>
     }
 }
 
-/// Prints what stands before the first record: the heading of a table of records.
+/// Prints what precedes the first record: the heading of a table of records.
 pub(crate) fn print_opening<E: Events>(alloc: Global, print: Print, out: &mut E) -> Result<(), Stop>
     ensures same { E.shown out.new ≡ E.shown out.old }
     ensures stops { IfErr result (OutStop (E.fault_count out.old) (E.fault_count out.new)) }
@@ -84,6 +84,7 @@ pub(crate) fn summary_text(
 ) -> Result<String, NoMemory> {
     let types = tally.notes.types(alloc)?;
     let protocols = tally.notes.protocols(alloc)?;
+    let hosts = tally.notes.hosts(alloc)?;
     let summary = Summary {
         records: size.records,
         first: tally.sides,
@@ -94,6 +95,8 @@ pub(crate) fn summary_text(
         protocols: protocols.as_slice(),
         rules: tally.rules.as_slice(),
         eras: era_counts(tally),
+        outside_hosts: hosts.outside.as_slice(),
+        inside_hosts: hosts.inside.as_slice(),
     };
     summary_line(alloc, format, &summary)
 }
@@ -113,11 +116,20 @@ pub(crate) fn heading_of_eras(alloc: Global) -> Result<String, NoMemory> {
     era_heading(alloc)
 }
 
-/// Returns the status of a view to its end: 10 if notes are asked for and one of them is a warning.
-pub(crate) fn answer(alloc: Global, print: Print, tally: &Tally) -> Result<u8, NoMemory>
-    ensures { IfOk result (λ answered. viewed.IsToItsEnd answered) }
+/// Returns the status of a view to its end, in which this number of records was chosen. It is 11 if
+/// evidence is asked for and there is one, 10 if notes are asked for and one of them is a warning.
+pub(crate) fn answer(
+    alloc: Global,
+    asked: &Asked,
+    chosen: u64,
+    tally: &Tally,
+) -> Result<u8, NoMemory>
+    ensures { IfOk result (viewed.IsStatusOf asked.now.evidence chosen) }
 {
-    match print {
+    if asked.evidence {
+        return Ok(status_of_evidence(chosen));
+    }
+    match asked.print {
         Print::Text | Print::Json | Print::Records | Print::Eras => Ok(0),
         Print::Notes | Print::JsonNotes => {
             let list = tally.notes.list(alloc)?;
@@ -126,8 +138,14 @@ pub(crate) fn answer(alloc: Global, print: Print, tally: &Tally) -> Result<u8, N
     }
 }
 
+fn status_of_evidence(chosen: u64) -> u8
+    ensures { result ≡ viewed.status_of_evidence chosen }
+{
+    if chosen == 0 { 0 } else { 11 }
+}
+
 fn status_of(warning: bool) -> u8
-    ensures { viewed.IsToItsEnd result }
+    ensures { viewed.IsStatusOf false 0 result }
 {
     if warning { 10 } else { 0 }
 }
@@ -182,7 +200,7 @@ fn line_of_era(
     era_line(alloc, format, &view)
 }
 
-// Returns the report's number of octets of an era that ended so.
+// Returns the report's number of octets of an era that ended in this way.
 fn octets_of(ended: Option<Ended>) -> Option<u64> {
     match ended {
         Some(ended) => ended.octets,

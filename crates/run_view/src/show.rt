@@ -5,14 +5,15 @@ ghost use Rattle.rule_book.specs.Entries.{plain};
 ghost use Rattle.view_text.specs.Lines.{plain_line};
 ghost use Rattle.run_view.specs.Chosen as spec;
 ghost use Rattle.run_view.specs.Events.{Shows, plain_event};
-ghost use Rattle.run_view.specs.Shows.{NotesLine, due_event, line_of_shown, lines_with, may_be_printed, met_shown, plain_shown};
+ghost use Rattle.run_view.specs.ShownLines.{NotesLine, due_event, line_of_shown, lines_with, may_be_chosen, met_shown, plain_shown};
 ghost use Rattle.run_view.specs.Stops.{OutStop};
 
 use crate::Stop;
-use crate::chosen::{Meets, either, meets_all, meets_record, met_by, nothing_met, prints_records};
+use crate::chosen::{Meets, chooses_records, either, meets_all, meets_record, met_by, nothing_met};
+use crate::compare::{flow_at, length_at, type_without};
 use crate::events::{Event, Events, Unshown};
+use crate::evidence::Evidence;
 use crate::item::Gathered;
-use crate::seen::{flow_at, length_at, type_without};
 use crate::words::Asked;
 use arrayvec::ArrayVec;
 use edge_io::NoMemory;
@@ -37,7 +38,7 @@ pub(crate) struct Shown<'a> {
     /// The octets of its record.
     pub(crate) octets: &'a [u8],
     pub(crate) entry: &'a Entry,
-    /// How many frames stand before its own.
+    /// How many frames precede its own.
     pub(crate) before: u64,
 }
 
@@ -52,6 +53,8 @@ pub(crate) struct Printing {
     pub(crate) due: Option<Vec<ShownLine>>,
     /// How many records were chosen.
     pub(crate) records: u64,
+    /// What they show, if evidence is asked for.
+    pub(crate) evidence: Evidence,
 }
 
 impl Printing {
@@ -64,12 +67,13 @@ impl Printing {
             lines: Vec::new(alloc),
             due: None,
             records: 0,
+            evidence: Evidence::new(alloc),
         }
     }
 }
 
-/// Notes a line of a record; the record is due if this is the last of its lines and it is chosen. So
-/// many other lines are to come.
+/// Notes a line of a record; the record is due if this is the last of its lines and it is chosen.
+/// `owed` other lines are to come.
 #[inline(always)]
 pub(crate) fn note_line(
     alloc: Global,
@@ -84,14 +88,14 @@ pub(crate) fn note_line(
         (lines_with shown.entry.second (map plain_line printing.old.lines.items) (line_of_shown (plain_shown shown.entry) gathered))) }
 {
     printing.due = None;
-    if prints_records(asked) {
+    if chooses_records(asked) {
         note_shown(alloc, asked, shown, owed, gathered, printing)
     } else {
         Ok(())
     }
 }
 
-// Does the same if records are shown.
+// Does the same if records are chosen.
 #[inline(never)]
 fn note_shown(
     alloc: Global,
@@ -101,7 +105,7 @@ fn note_shown(
     gathered: Gathered,
     printing: &mut Printing,
 ) -> Result<(), NoMemory>
-    requires wanted { spec.prints_records asked.now ≡ true }
+    requires wanted { spec.chooses_records asked.now ≡ true }
     requires none_due { printing.old.due ≡ None }
     ensures { OnOk result (NotesLine printing.old printing.new asked.now owed
         (met_shown asked.now (plain_shown shown.entry) printing.old.met)
@@ -109,13 +113,27 @@ fn note_shown(
 {
     let met = met_before(asked, shown, printing.met);
     printing.met = met;
-    if !may_be_printed(met, owed) {
+    if asked.evidence {
+        let changes = gathered.changes.as_slice();
+        printing.evidence.take(alloc, shown, changes)?;
+    }
+    if !may_be_chosen(met, owed) {
         return Ok(());
     }
-    add_line(shown, gathered, &mut printing.lines)?;
+    if owed == 0 {
+        printing.records = printing.records.saturating_add(1);
+        if asked.evidence {
+            let length = length_at(shown.link, shown.octets);
+            printing.evidence.count(length);
+        }
+    }
+    if asked.summary {
+        return Ok(());
+    }
+    let line = line_shown(alloc, shown, gathered, &mut printing.evidence);
+    add_line(shown.second, line, &mut printing.lines)?;
     if owed == 0 {
         printing.due = Some(mem::replace(&mut printing.lines, Vec::new(alloc)));
-        printing.records = printing.records.saturating_add(1);
     }
     Ok(())
 }
@@ -163,9 +181,10 @@ fn met_before(asked: &Asked, shown: Shown<'_>, before: Meets) -> Meets
     }
 }
 
-// Returns whether a record may be shown whose lines meet this, where so many others are to come.
-fn may_be_printed(met: Meets, owed: u8) -> bool
-    ensures { result ≡ may_be_printed owed met }
+// Returns whether a record may be chosen whose lines meet this, where this number of others is to
+// come.
+fn may_be_chosen(met: Meets, owed: u8) -> bool
+    ensures { result ≡ may_be_chosen owed met }
 {
     if owed == 0 {
         meets_all(met)
@@ -175,15 +194,10 @@ fn may_be_printed(met: Meets, owed: u8) -> bool
 }
 
 // Adds a line of a record to those before; one of the first engine begins a record.
-fn add_line(
-    shown: Shown<'_>,
-    gathered: Gathered,
-    lines: &mut Vec<ShownLine>,
-) -> Result<(), NoMemory>
-    ensures { OnOk result (map plain_line lines.new.items ≡ lines_with shown.entry.second (map plain_line lines.old.items) (line_of_shown (plain_shown shown.entry) gathered)) }
+fn add_line(second: bool, line: ShownLine, lines: &mut Vec<ShownLine>) -> Result<(), NoMemory>
+    ensures { OnOk result (map plain_line lines.new.items ≡ lines_with second (map plain_line lines.old.items) (plain_line line)) }
 {
-    let line = line_shown(shown, gathered);
-    if !shown.second {
+    if !second {
         lines.clear();
     }
     lines.push(line)?;
@@ -191,13 +205,19 @@ fn add_line(
 }
 
 // Returns what is shown of a line.
-fn line_shown(shown: Shown<'_>, gathered: Gathered) -> ShownLine
+fn line_shown(
+    alloc: Global,
+    shown: Shown<'_>,
+    gathered: Gathered,
+    evidence: &mut Evidence,
+) -> ShownLine
     ensures { plain_line result ≡ line_of_shown (plain_shown shown.entry) gathered }
 {
     let flow = flow_at(shown.link, shown.octets);
     let entry = copied(shown.entry);
     let Gathered {
         changes,
+        unchanged: _,
         wants: _,
         flow: _,
         octets: _,
@@ -214,6 +234,8 @@ fn line_shown(shown: Shown<'_>, gathered: Gathered) -> ShownLine
         given: shown.given,
         before: shown.before,
         changes,
+        firsts: evidence.replaced(alloc),
+        clash: evidence.clash(),
     }
 }
 

@@ -6,7 +6,7 @@ ghost use Rattle.pcap_file.specs.Records.{Packet};
 ghost use Rattle.pcap_file.specs.declared.head.Head.{Head};
 ghost use Rattle.capture_input.specs.Reading.{is_open_in};
 ghost use Rattle.run_view.specs.Stops as spec;
-ghost use Rattle.run_view.specs.Standing.{InputAt, InputOpened, InputReads, InputStop, IsBehind, OutputAt, OutputHeadStop, OutputReads, OutputStop};
+ghost use Rattle.run_view.specs.Readers.{InputAt, InputOpened, InputReads, InputStop, IsBehind, OutputAt, OutputHeadStop, OutputReads, OutputStop};
 ghost use Rattle.wire_base.specs.declared.limits.TheConstants.{MAX_CAPTURED};
 
 use crate::Stop;

@@ -1,4 +1,4 @@
-//! Why a run is not viewed to its end, and the line that says so.
+//! Why a run is not viewed to its end, and the line that reports it.
 ghost use Rattle.std.specs.Prelude.{◌≡◌};
 ghost use Rattle.run_view.specs.Stops as spec;
 
@@ -10,7 +10,7 @@ use view_text::{Format, stop_line};
 /// Why a run is not viewed to its end.
 #[derive(Clone, Copy, Debug, PartialEq, Eq)]
 pub enum Stop {
-    /// The words are refused.
+    /// The arguments are invalid.
     Words,
     /// This record, counted from 1, is in one of input and report alone.
     Record(u64),

@@ -4,27 +4,27 @@ ghost use Rattle.std.specs.declared.option.Option.{Option};
 ghost use Rattle.pcap_file.specs.declared.head.Head.{Head};
 ghost use Rattle.rule_book.specs.Entries.{plain};
 ghost use Rattle.rule_book.specs.Reports.{IsEntryOf};
-ghost use Rattle.run_view.specs.Ahead.{left_in};
+ghost use Rattle.run_view.specs.ReadAhead.{left_in};
 ghost use Rattle.run_view.specs.Events.{Event};
 ghost use Rattle.run_view.specs.Forms.{version_of as version_of_form};
 ghost use Rattle.run_view.specs.Items.{Item, line_by};
 ghost use Rattle.run_view.specs.Runs.{counts_of, sources_of};
-ghost use Rattle.run_view.specs.SoFar.{Ends, MayTake, SoFar, Taken, WentOn, WentOnBy, ends_of, lines_in, turn_in};
+ghost use Rattle.run_view.specs.ViewerAt.{Ends, MayTake, ViewerAt, Taken, WentOn, WentOnBy, ends_of, lines_in, turn_in};
 ghost use Rattle.run_view.specs.Progress.{Going, IsSameRun, LineStop, StepsTo};
 ghost use Rattle.run_view.specs.Stops.{RestStop};
 ghost use Rattle.edge_io.specs.Faults.{RisesOnlyAtErr, Rose};
 
 use crate::Stop;
+use crate::compare::Original;
 use crate::events::Events;
 use crate::form::{answers, is_both, own_frames, version_of};
 use crate::item::{gather, hold, nothing, time_of};
-use crate::judged::{kinds_by, second_kinds};
+use crate::judged::{is_passed_first, is_passed_second, kinds_by, second_kinds};
 use crate::print::format_of;
-use crate::seen::Original;
 use crate::show::{Shown, note_line, show_due};
 use crate::sources::next_record;
 use crate::tally::wants_of;
-use crate::told::{Turn, entry_part, is_last};
+use crate::turn::{Turn, entry_part, is_last};
 use crate::viewer::Viewer;
 use edge_io::Source;
 use rule_book::{Entry, read_entry};
@@ -83,7 +83,7 @@ pub(crate) fn step<I: Source, O: Source, R: Source, E: Events>(
     }
 }
 
-// Returns where the next line of the report stands.
+// Returns the position of the next line of the report.
 fn turn(viewer: &Viewer) -> Turn
     ensures { result ≡ turn_in viewer.now }
 {
@@ -113,7 +113,7 @@ fn take<I: Source, O: Source>(
 ) -> Result<(), Stop>
     requires may { MayTake viewer.old }
     ensures taken { OnOk result ((head : Head) (before : Ends) (shown : Option (List Event)) (items : List Item) →
-        SoFar viewer.old head before (ends_of (I.left input.old) (O.left output.old) shown) items →
+        ViewerAt viewer.old head before (ends_of (I.left input.old) (O.left output.old) shown) items →
         IsEntryOf (version_of_form viewer.old.form) (plain entry.now) → entry.now.number ≡ (turn_in viewer.old).done + 1 →
         Taken viewer.new head before (ends_of (I.left input.new) (O.left output.new) shown) items
         (line_by (turn_in viewer.old).second (plain entry.now))) }
@@ -141,7 +141,7 @@ fn take_first<I: Source, O: Source>(
     requires may { MayTake viewer.old }
     requires none_owed { viewer.old.owed ≡ 0 }
     ensures taken { OnOk result ((head : Head) (before : Ends) (shown : Option (List Event)) (items : List Item) →
-        SoFar viewer.old head before (ends_of (I.left input.old) (O.left output.old) shown) items →
+        ViewerAt viewer.old head before (ends_of (I.left input.old) (O.left output.old) shown) items →
         IsEntryOf (version_of_form viewer.old.form) (plain entry.now) → entry.now.number ≡ viewer.old.files.count + 1 →
         Taken viewer.new head before (ends_of (I.left input.new) (O.left output.new) shown) items (line_by false (plain entry.now))) }
     ensures went { OnOk result (WentOnBy false viewer.old viewer.new) }
@@ -155,50 +155,39 @@ fn take_first<I: Source, O: Source>(
         return Err(Stop::Record(files.count + 1));
     };
     files.count += 1;
-    let before = files.frames.count;
-    let octets = record.bytes;
+    let (link, before, octets) = (files.head.link, files.frames.count, record.bytes);
     let time = time_of(files.head, record.seconds, record.fraction);
+    let both = is_both(viewer.form);
     let original = Original {
-        link: files.head.link,
+        link,
         kinds: kinds_by(entry, false, false),
+        passed: is_passed_first(both, entry),
+        number: entry.number,
+        seconds: record.seconds,
+        fraction: record.fraction,
         octets,
     };
     let mut gathered = nothing(alloc, original, wants_of(None, entry));
     let packets = own_frames(viewer.form, entry.packets);
-    gather(
-        alloc,
-        original,
-        packets,
-        &mut gathered,
-        &mut files.frames,
-        output,
-    )?;
-    let line = run_notes::Line {
-        link: files.head.link,
-        octets,
-        entry,
-    };
-    viewer.tally.note(alloc, line, time, &gathered)?;
-    viewer.owed = answers(viewer.form, entry.packets);
-    hold(viewer.owed, entry, octets, time, &mut viewer.held)?;
+    let frames = &mut files.frames;
+    gather(alloc, original, packets, &mut gathered, frames, output)?;
+    let tally = &mut viewer.tally;
+    tally.note(alloc, original, entry, time, &gathered)?;
+    let owed = answers(viewer.form, entry.packets);
+    viewer.owed = owed;
+    hold(owed, entry, original, &mut viewer.held)?;
     let shown = Shown {
         second: false,
-        given: is_both(viewer.form),
+        given: both,
         number: entry.number,
         time,
-        link: files.head.link,
+        link,
         octets,
         entry,
         before,
     };
-    note_line(
-        alloc,
-        &viewer.asked,
-        shown,
-        viewer.owed,
-        gathered,
-        &mut viewer.printing,
-    )?;
+    let printing = &mut viewer.printing;
+    note_line(alloc, &viewer.asked, shown, owed, gathered, printing)?;
     Ok(())
 }
 
@@ -212,7 +201,7 @@ fn take_second<O: Source>(
     requires may { MayTake viewer.old }
     requires owed { 0 < viewer.old.owed }
     ensures taken { OnOk result ((read : Option (List ℕ)) (head : Head) (before : Ends) (shown : Option (List Event)) (items : List Item) →
-        SoFar viewer.old head before (ends_of read (O.left output.old) shown) items →
+        ViewerAt viewer.old head before (ends_of read (O.left output.old) shown) items →
         IsEntryOf (version_of_form viewer.old.form) (plain entry.now) → entry.now.number ≡ viewer.old.second_count + 1 →
         Taken viewer.new head before (ends_of read (O.left output.new) shown) items (line_by true (plain entry.now))) }
     ensures went { OnOk result (WentOnBy true viewer.old viewer.new) }
@@ -221,44 +210,36 @@ fn take_second<O: Source>(
     ensures output_faults { RisesOnlyAtErr (O.fault_count output.old) (O.fault_count output.new) result }
 {
     viewer.owed -= 1;
-    let before = viewer.files.frames.count;
+    let (link, before) = (viewer.files.head.link, viewer.files.frames.count);
     let held = &viewer.held;
     let octets = held.octets.as_slice();
     let original = Original {
-        link: viewer.files.head.link,
+        link,
         kinds: second_kinds(entry, held.judged, viewer.owed),
+        passed: is_passed_second(held.judged, entry),
+        number: held.judged.number,
+        seconds: held.seconds,
+        fraction: held.fraction,
         octets,
     };
+    let time = time_of(viewer.files.head, held.seconds, held.fraction);
     let mut gathered = nothing(alloc, original, wants_of(held.judged.era, entry));
-    let frames = &mut viewer.files.frames;
-    gather(
-        alloc,
-        original,
-        entry.packets,
-        &mut gathered,
-        frames,
-        output,
-    )?;
+    let (packets, frames) = (entry.packets, &mut viewer.files.frames);
+    gather(alloc, original, packets, &mut gathered, frames, output)?;
     let tally = &mut viewer.tally;
-    tally.note_second(alloc, held.judged, entry, held.time, &gathered)?;
+    tally.note_second(alloc, held.judged, entry, time, &gathered)?;
     viewer.second_count += 1;
     let shown = Shown {
         second: true,
         given: false,
         number: held.judged.number,
-        time: held.time,
-        link: viewer.files.head.link,
+        time,
+        link,
         octets,
         entry,
         before,
     };
-    note_line(
-        alloc,
-        &viewer.asked,
-        shown,
-        viewer.owed,
-        gathered,
-        &mut viewer.printing,
-    )?;
+    let (owed, printing) = (viewer.owed, &mut viewer.printing);
+    note_line(alloc, &viewer.asked, shown, owed, gathered, printing)?;
     Ok(())
 }

@@ -1,14 +1,15 @@
 //! What is counted over a run.
 
+use crate::compare::Original;
 use crate::eras::{Eras, Told, add_record, begin, bring, end_all, from_outside};
 use crate::item::{Gathered, Wants};
 use crate::judged::Judged;
 use edge_io::NoMemory;
 use indexmap::IndexMap;
 use rule_book::{Ended, Entry, Reason, Rule, Verdict};
-use run_notes::{Line, Notes};
+use run_notes::{NotedLine, Notes};
 use std::alloc::Global;
-use view_text::{Counts, EraCounts, Opened, RuleCount, Sides};
+use view_text::{EraCounts, Opened, RuleCount, Sides, VerdictCounts};
 use wire_base::Side;
 
 /// What is known of a run so far.
@@ -46,12 +47,16 @@ impl Tally {
     pub(crate) fn note(
         &mut self,
         alloc: Global,
-        line: Line<'_>,
+        original: Original<'_>,
+        entry: &Entry,
         time: u64,
         gathered: &Gathered,
     ) -> Result<(), NoMemory> {
-        let entry = line.entry;
-        self.notes.take(line)?;
+        self.notes.take(NotedLine {
+            link: original.link,
+            octets: original.octets,
+            entry,
+        })?;
         add_to_side(&mut self.sides, entry.side, entry.verdict);
         count_rules(&mut self.rules, entry.side, entry.rules.as_slice())?;
         note_eras(alloc, &mut self.eras, false, entry, time, gathered)
@@ -74,7 +79,7 @@ impl Tally {
     }
 }
 
-/// Returns what is wanted of a line, whose record belongs to this era of the first engine.
+/// Returns what is needed of a line, whose record belongs to this era of the first engine.
 pub(crate) fn wants_of(first: Option<u32>, entry: &Entry) -> Wants {
     let of_era = first.is_some() || entry.era.is_some() || entry.begun.is_some();
     Wants {
@@ -91,8 +96,8 @@ fn if_inward(side: Option<Side>, count: u64) -> u64 {
     }
 }
 
-fn no_counts() -> Counts {
-    Counts {
+fn no_counts() -> VerdictCounts {
+    VerdictCounts {
         pass: 0,
         fix: 0,
         hold: 0,
@@ -117,6 +122,9 @@ fn note_eras(
     time: u64,
     gathered: &Gathered,
 ) -> Result<(), NoMemory> {
+    if entry.era.is_none() && entry.begun.is_none() && entry.ended.is_empty() {
+        return Ok(());
+    }
     let told = Told {
         time,
         octets: if_inward(entry.side, gathered.octets),
@@ -138,7 +146,7 @@ fn add_to_side(sides: &mut Sides, side: Option<Side>, verdict: Verdict) {
 }
 
 // Adds one with this verdict.
-fn add_verdict(counts: &mut Counts, verdict: Verdict) {
+fn add_verdict(counts: &mut VerdictCounts, verdict: Verdict) {
     match verdict {
         Verdict::Pass => counts.pass = counts.pass.saturating_add(1),
         Verdict::Fix => counts.fix = counts.fix.saturating_add(1),
@@ -219,7 +227,7 @@ fn with_eras(eras: &Eras, before: EraCounts) -> EraCounts {
     counts
 }
 
-// Adds an era that was opened and ended so.
+// Adds an era that was opened and ended in this way.
 fn with_era(opened: Option<Opened>, ended: Option<Ended>, before: EraCounts) -> EraCounts {
     let mut counts = before;
     counts.all = counts.all.saturating_add(1);

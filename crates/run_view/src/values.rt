@@ -42,7 +42,7 @@ pub(crate) fn side_place(side: Option<Side>) -> u8
     }
 }
 
-/// Returns the names of a list, between commas; None if one is none or is there twice.
+/// Returns the names of a list, between commas; None if one is invalid or occurs twice.
 pub(crate) fn listed(choice: Choice, value: &[u8]) -> Option<Names>
     ensures { result ≡ spec.listed choice value.now }
 {
@@ -67,7 +67,7 @@ fn place_of(text: &[u8], octet: u8) -> usize
         .unwrap_or(text.len())
 }
 
-// Adds the name at this place, unless there is none or it is there.
+// Adds the name at this place, unless there is none or it is present.
 fn with_place(names: Names, place: Option<u8>) -> Option<Names>
     requires { IfSome place (λ n. n < 64) }
     ensures { result ≡ spec.with_place names place }
@@ -149,7 +149,7 @@ pub(crate) fn table_named(name: &[u8]) -> Option<Print>
     }
 }
 
-/// Returns the era of a value: its number, behind `second:` where it is one of the second engine.
+/// Returns the era of a value: its number, after `second:` where it is one of the second engine.
 pub(crate) fn era_named(value: &[u8]) -> Option<EraAsked>
     ensures { result ≡ spec.era_named value.now }
 {
@@ -221,7 +221,7 @@ fn prefix_of_parts(
     })
 }
 
-// Returns the octets before the first separator and those behind it; without a separator, all and
+// Returns the octets before the first separator and those after it; without a separator, all and
 // none.
 fn cut(text: &[u8], separator: u8) -> (&[u8], &[u8])
     ensures before { result.0.now ≡ prefixes.before separator text.now }

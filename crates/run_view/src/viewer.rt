@@ -3,12 +3,12 @@ ghost use Rattle.std.specs.Prelude.{◌≡◌, ◌⊎◌, ◌<◌, ◌≤◌, []
 ghost use Rattle.edge_io.specs.Faults.{RisesOnlyAtErr};
 ghost use Rattle.capture_input.specs.Reading.{is_open_in};
 ghost use Rattle.pcap_file.specs.declared.head.Head.{Head};
-ghost use Rattle.run_view.specs.Ahead.{left_in};
+ghost use Rattle.run_view.specs.ReadAhead.{left_in};
 ghost use Rattle.run_view.specs.Events.{Shows, count_shown, is_summed};
 ghost use Rattle.run_view.specs.Progress.{Whole};
 ghost use Rattle.run_view.specs.Runs.{counts_of, sources_of};
-ghost use Rattle.run_view.specs.SoFar.{Ends, IsFresh, MayTake, SoFar, ends_of};
-ghost use Rattle.run_view.specs.Standing.{IsBehind};
+ghost use Rattle.run_view.specs.ViewerAt.{Ends, IsFresh, MayTake, ViewerAt, ends_of};
+ghost use Rattle.run_view.specs.Readers.{IsBehind};
 ghost use Rattle.run_view.specs.Stops.{FilesStop, OutStop, RestStop};
 ghost use Rattle.run_view.specs.Viewed as viewed;
 ghost use Rattle.run_view.specs.Words.{asked_in as words_ask};
@@ -34,8 +34,9 @@ use capture_input::Input;
 use edge_io::{NoMemory, Source};
 use pcap_file::Reader;
 use std::alloc::Global;
+use view_text::evidence_lines;
 
-/// How far a view has come.
+/// The progress of a view.
 #[derive(Drop)]
 pub(crate) struct Viewer {
     pub(crate) asked: Asked,
@@ -55,20 +56,21 @@ pub(crate) struct Viewer {
 /// Views a finished run: reads the capture that was its input, the capture that it wrote and its
 /// report in step, prints what the words ask for, and returns the status:
 ///
-/// - 0 if all three were read to their end and no count of faults rose; 10 in its place if notes are
-///   asked for and one of them is a warning. Then `out` was shown exactly the events of the files;
+/// - 0 if all three were read to their end and no count of faults rose; 10 in its place if notes
+///   are asked for and one of them is a warning, and 11 if evidence is asked for and a record is
+///   chosen. Then `out` was shown exactly the events of the files;
 /// - 1, `no record N` or `no frame N`, if the files do not belong to each other;
-/// - 2, `stop words`, if the words are refused;
+/// - 2, `stop words`, for invalid arguments;
 /// - 3 and 4, `stop in cut O` and the like, if the input or the output is no capture, 4 where it
-///   ends inside its head, a record or a block; 3, `stop out link 0`, also if the output has another
-///   link than the input;
+///   ends inside its head, a record or a block; 3, `stop out link 0`, too, if the link of the
+///   output differs from the input's;
 /// - 5, `stop read`, if a source failed;
 /// - 7 if `out` failed;
 /// - 8, `stop memory`, if memory could not be allocated;
 /// - 9, `stop report N`, if the report is that of no finished run, by its line N.
 ///
-/// The line of a status other than 0, 7 and 10 is the last one that is printed, as JSON if a word is
-/// `--json`, also of words that are refused.
+/// The line of a status other than 0, 7, 10 and 11 is the last one that is printed, as JSON if a
+/// word is `--json`, even for invalid arguments.
 pub fn view<I: Source, O: Source, R: Source, E: Events>(
     alloc: Global,
     words: &[String],
@@ -78,7 +80,7 @@ pub fn view<I: Source, O: Source, R: Source, E: Events>(
     out: &mut E,
 ) -> u8
     ensures viewed { viewed.IsToItsEnd result → viewed.Viewed (map string_bytes words.now) (I.left input.old) (O.left output.old) (R.left report.old)
-        (E.shown out.old) (E.shown out.new) }
+        (E.shown out.old) (E.shown out.new) result }
     ensures stopped { viewed.IsToItsEnd result ⊎ viewed.Stopped (map string_bytes words.now)
         (viewed.moment_of (I.left input.old) (I.fault_count input.old) (O.left output.old) (O.fault_count output.old)
         (R.left report.old) (R.fault_count report.old) (E.fault_count out.old))
@@ -88,7 +90,7 @@ pub fn view<I: Source, O: Source, R: Source, E: Events>(
         ≡ counts_of (I.fault_count input.old) (O.fault_count output.old) (R.fault_count report.old) (E.fault_count out.old) }
     ensures refused { words_ask (map string_bytes words.now) ≡ None → (result ≡ 2) ⊎ (result ≡ 7) ⊎ (result ≡ 8) }
     ensures unread { words_ask (map string_bytes words.now) ≡ None → (input.new ≡ input.old) × (output.new ≡ output.old) × (report.new ≡ report.old) }
-    ensures known { (result ≤ 5) ⊎ ((7 ≤ result) × (result ≤ 10)) }
+    ensures known { (result ≤ 5) ⊎ ((7 ≤ result) × (result ≤ 11)) }
     ensures input_later { I.fault_count input.old ≤ I.fault_count input.new }
     ensures output_later { O.fault_count output.old ≤ O.fault_count output.new }
     ensures report_later { R.fault_count report.old ≤ R.fault_count report.new }
@@ -113,7 +115,8 @@ fn view_asked<I: Source, O: Source, R: Source, E: Events>(
     report: &mut R,
     out: &mut E,
 ) -> Result<u8, Stop>
-    ensures viewed { OnOk result (viewed.ViewedAs asked (I.left input.old) (O.left output.old) (R.left report.old) (E.shown out.old) (E.shown out.new)) }
+    ensures viewed { IfOk result (λ answered. viewed.ViewedAs asked (I.left input.old) (O.left output.old) (R.left report.old) (E.shown out.old)
+        (E.shown out.new) answered) }
     ensures answers { IfOk result (λ answered. viewed.IsToItsEnd answered) }
     ensures stops { IfErr result (FilesStop (sources_of (I.left input.old) (O.left output.old) (R.left report.old))
         (counts_of (I.fault_count input.old) (O.fault_count output.old) (R.fault_count report.old) (E.fault_count out.old))
@@ -167,11 +170,13 @@ fn new_viewer(
         files,
         held: Held {
             octets: Vec::new(alloc),
-            time: 0,
+            seconds: 0,
+            fraction: 0,
             judged: Judged {
                 number: 0,
                 side: None,
                 era: None,
+                passed: false,
                 dropped: false,
                 probe: false,
                 datagram: false,
@@ -184,7 +189,7 @@ fn new_viewer(
     })
 }
 
-// Views the records behind the first line of the report, to the end of the three files.
+// Views the records after the first line of the report, to the end of the three files.
 fn view_entries<I: Source, O: Source, R: Source, E: Events>(
     alloc: Global,
     viewer: &mut Viewer,
@@ -194,12 +199,13 @@ fn view_entries<I: Source, O: Source, R: Source, E: Events>(
     out: &mut E,
 ) -> Result<u8, Stop>
     requires may { MayTake viewer.old }
-    ensures viewed { OnOk result ((head : Head) (before : Ends) →
-        SoFar viewer.old head before (ends_of (I.left input.old) (O.left output.old) (E.shown out.old)) [] →
-        Whole viewer.old.asked viewer.old.form viewer.old.files.head head before (E.shown out.new) (left_in viewer.old.lines (R.left report.old))) }
+    ensures viewed { IfOk result (λ answered. (head : Head) (before : Ends) →
+        ViewerAt viewer.old head before (ends_of (I.left input.old) (O.left output.old) (E.shown out.old)) [] →
+        Whole viewer.old.asked viewer.old.form viewer.old.files.head head before (E.shown out.new) (left_in viewer.old.lines (R.left report.old))
+        answered) }
     ensures answers { IfOk result (λ answered. viewed.IsToItsEnd answered) }
     ensures stops { IfErr result (λ stop. (head : Head) (before : Ends) →
-        SoFar viewer.old head before (ends_of (I.left input.old) (O.left output.old) (E.shown out.old)) [] →
+        ViewerAt viewer.old head before (ends_of (I.left input.old) (O.left output.old) (E.shown out.old)) [] →
         RestStop viewer.old.form (sources_of before.read before.written (left_in viewer.old.lines (R.left report.old)))
         (counts_of (I.fault_count input.old) (O.fault_count output.old) (R.fault_count report.old) (E.fault_count out.old))
         (counts_of (I.fault_count input.new) (O.fault_count output.new) (R.fault_count report.new) (E.fault_count out.new)) stop) }
@@ -213,14 +219,15 @@ fn view_entries<I: Source, O: Source, R: Source, E: Events>(
     close(alloc, viewer, out)
 }
 
-// Shows and prints what stands at the end, flushes the output, and returns the status.
+// Shows and prints what belongs to the end, flushes the output, and returns the status.
 fn close<E: Events>(alloc: Global, viewer: &Viewer, out: &mut E) -> Result<u8, Stop>
     ensures shows { OnOk result (Shows (E.shown out.old) (E.shown out.new) (count_shown viewer.now.asked viewer.now.printing.records)) }
-    ensures answers { IfOk result (λ answered. viewed.IsToItsEnd answered) }
+    ensures answers { IfOk result (viewed.IsStatusOf viewer.now.asked.evidence viewer.now.printing.records) }
     ensures stops { IfErr result (OutStop (E.fault_count out.old) (E.fault_count out.new)) }
     ensures faults { RisesOnlyAtErr (E.fault_count out.old) (E.fault_count out.new) result }
 {
-    let Ok(answered) = answer(alloc, viewer.asked.print, &viewer.tally) else {
+    let chosen = viewer.printing.records;
+    let Ok(answered) = answer(alloc, &viewer.asked, chosen, &viewer.tally) else {
         return Err(Stop::Memory);
     };
     match print_end(alloc, viewer, out) {
@@ -232,7 +239,7 @@ fn close<E: Events>(alloc: Global, viewer: &Viewer, out: &mut E) -> Result<u8, S
     }
 }
 
-// Shows and prints what stands at the end.
+// Shows and prints what belongs to the end.
 fn print_end<E: Events>(alloc: Global, viewer: &Viewer, out: &mut E) -> Result<(), Stop>
     ensures shows { OnOk result (Shows (E.shown out.old) (E.shown out.new) (count_shown viewer.now.asked viewer.now.printing.records)) }
     ensures stops { IfErr result (OutStop (E.fault_count out.old) (E.fault_count out.new)) }
@@ -246,22 +253,39 @@ fn print_end<E: Events>(alloc: Global, viewer: &Viewer, out: &mut E) -> Result<(
     }
 }
 
-// Shows how many records were chosen, if a condition is given; else prints the summary, the eras and
-// the notes.
+// Shows how many records were chosen, if a condition is given, and prints what they show, if
+// evidence is asked for; else prints the summary, the eras and the notes.
 fn sum_up<E: Events>(alloc: Global, viewer: &Viewer, out: &mut E) -> Result<(), Stop>
     requires summed { is_summed viewer.now.asked ≡ true }
     ensures shows { OnOk result (Shows (E.shown out.old) (E.shown out.new) (count_shown viewer.now.asked viewer.now.printing.records)) }
     ensures stops { IfErr result (OutStop (E.fault_count out.old) (E.fault_count out.new)) }
     ensures faults { RisesOnlyAtErr (E.fault_count out.old) (E.fault_count out.new) result }
 {
-    if has_choice(&viewer.asked) {
-        let chosen = Event::Chosen(viewer.printing.records);
-        return show(format_of(viewer.asked.print), chosen, out);
+    if !has_choice(&viewer.asked) {
+        return print_whole(alloc, viewer, out);
     }
-    print_whole(alloc, viewer, out)
+    let chosen = Event::Chosen(viewer.printing.records);
+    match show(format_of(viewer.asked.print), chosen, out) {
+        Ok(()) => print_evidence(alloc, viewer, out),
+        Err(stop) => Err(stop),
+    }
 }
 
-// Prints the summary, the eras and the notes.
+// Prints what the records show that were chosen, if evidence is asked for.
+fn print_evidence<E: Events>(alloc: Global, viewer: &Viewer, out: &mut E) -> Result<(), Stop>
+    ensures same { OnOk result (E.shown out.new ≡ E.shown out.old) }
+    ensures stops { IfErr result (OutStop (E.fault_count out.old) (E.fault_count out.new)) }
+    ensures faults { RisesOnlyAtErr (E.fault_count out.old) (E.fault_count out.new) result }
+{
+    if !viewer.asked.evidence {
+        return Ok(());
+    }
+    let format = format_of(viewer.asked.print);
+    let counts = &viewer.printing.evidence.counts;
+    write(evidence_lines(alloc, format, counts), out)
+}
+
+// Prints the summary, the eras, unless only a summary is asked for, and the notes.
 fn print_whole<E: Events>(alloc: Global, viewer: &Viewer, out: &mut E) -> Result<(), Stop>
     ensures same { OnOk result (E.shown out.new ≡ E.shown out.old) }
     ensures stops { IfErr result (OutStop (E.fault_count out.old) (E.fault_count out.new)) }
@@ -294,12 +318,16 @@ fn print_eras<E: Events>(alloc: Global, viewer: &Viewer, out: &mut E) -> Result<
     }
 }
 
-// Prints the lines of all eras, those of the first engine before those of the second.
+// Prints the lines of all eras, those of the first engine before those of the second; none if only
+// a summary is asked for.
 fn print_tables<E: Events>(alloc: Global, viewer: &Viewer, out: &mut E) -> Result<(), Stop>
     ensures same { OnOk result (E.shown out.new ≡ E.shown out.old) }
     ensures stops { IfErr result (OutStop (E.fault_count out.old) (E.fault_count out.new)) }
     ensures faults { RisesOnlyAtErr (E.fault_count out.old) (E.fault_count out.new) result }
 {
+    if viewer.asked.summary {
+        return Ok(());
+    }
     let format = format_of(viewer.asked.print);
     match print_table(alloc, format, false, &viewer.tally.eras, out) {
         Ok(()) => print_table(alloc, format, true, &viewer.tally.second_eras, out),

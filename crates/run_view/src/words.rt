@@ -38,16 +38,29 @@ pub struct EraAsked {
 #[derive(Clone, Copy, Debug, PartialEq, Eq)]
 pub struct Asked {
     pub print: Print,
-    /// Records are printed of which a line names one of these rules.
+    /// Records are chosen if a line of them names one of these rules.
     pub rules: Option<Names>,
-    /// Records are printed of which a line belongs to this era, began it or ended it.
+    /// Records are chosen if a line of them belongs to this era, began it or ended it.
     pub era: Option<EraAsked>,
-    /// Records are printed of which a line has one of these verdicts.
+    /// Records are chosen if a line of them has one of these verdicts.
     pub verdicts: Option<Names>,
-    /// Records are printed that have one of these sides.
+    /// Records are chosen that have one of these sides.
     pub sides: Option<Names>,
-    /// Records are printed whose source or destination lies in this prefix.
+    /// Records are chosen whose source or destination is in this prefix.
     pub host: Option<Prefix>,
+    /// Records are chosen if a line of them is inbound or has no side, and is not `pass`.
+    pub evidence: bool,
+    /// No line of a record or of an era is printed.
+    pub summary: bool,
+}
+
+/// An option without a value.
+#[derive(Clone, Copy)]
+pub enum Mark {
+    AsJson,
+    AsNotes,
+    AsEvidence,
+    AsSummary,
 }
 
 /// An option with a value.
@@ -64,8 +77,8 @@ pub enum Choice {
 /// A word before the names.
 #[derive(Clone, Copy)]
 pub enum Met<'a> {
-    Json,
-    Notes,
+    /// An option without a value.
+    Marked(Mark),
     Joined(Choice, &'a [u8]),
     /// An option whose value is the next word.
     Parted(Choice),
@@ -103,7 +116,7 @@ impl Choice {
     }
 }
 
-/// Returns whether JSON is asked for, also by words that are refused.
+/// Returns whether JSON is asked for, even by invalid arguments.
 pub(crate) fn asks_json(words: &[String]) -> bool
     ensures { result ≡ spec.asks_json (map string_bytes words.now) }
 {
@@ -126,6 +139,8 @@ pub(crate) fn asked_in(words: &[String]) -> Option<Asked>
         verdicts: None,
         sides: None,
         host: None,
+        evidence: false,
+        summary: false,
     };
     let mut waiting = None;
     for (place, word) in words.iter().enumerate() {
@@ -135,8 +150,7 @@ pub(crate) fn asked_in(words: &[String]) -> Option<Asked>
         };
         waiting = None;
         match met {
-            Met::Json => asked = with_print(asked, Some(Print::Json))?,
-            Met::Notes => asked = with_print(asked, Some(Print::Notes))?,
+            Met::Marked(mark) => asked = with_mark(mark, asked)?,
             Met::Joined(choice, value) => asked = with_choice(choice, asked, value)?,
             Met::Parted(choice) => waiting = Some(choice),
             Met::Name => return with_names(asked, &words[place..]),
@@ -174,14 +188,16 @@ fn is_name(word: &[u8]) -> bool
     }
 }
 
-// Returns whether no condition is given for a table of eras or for notes.
+// Returns whether no condition is given for a table of eras or for notes, and a summary is of a
+// text or of JSON.
 fn go_together(asked: Asked) -> bool
     ensures { result ≡ spec.go_together asked }
 {
     let choice = has_choice(&asked);
     match asked.print {
-        Print::Text | Print::Json | Print::Records => true,
-        Print::Eras | Print::Notes | Print::JsonNotes => !choice,
+        Print::Text | Print::Json => true,
+        Print::Records => !asked.summary,
+        Print::Eras | Print::Notes | Print::JsonNotes => !choice && !asked.summary,
     }
 }
 
@@ -197,7 +213,7 @@ fn both_printed(first: Print, second: Print) -> Option<Print>
     }
 }
 
-// Adds what is printed, unless it does not go with what was asked for before, or none is given.
+// Adds what is printed, unless it conflicts with what was asked for before, or none is given.
 fn with_print(asked: Asked, print: Option<Print>) -> Option<Asked>
     ensures { result ≡ spec.with_print asked print }
 {
@@ -205,7 +221,7 @@ fn with_print(asked: Asked, print: Option<Print>) -> Option<Asked>
     Some(Asked { print, ..asked })
 }
 
-// Adds an option with this value, unless the value is none or the option does not go with those
+// Adds an option with this value, unless the value is invalid or the option conflicts with those
 // before.
 fn with_choice(choice: Choice, asked: Asked, value: &[u8]) -> Option<Asked>
     ensures { result ≡ spec.with_choice choice asked value.now }
@@ -222,7 +238,31 @@ fn with_choice(choice: Choice, asked: Asked, value: &[u8]) -> Option<Asked>
     Some(more)
 }
 
-// Returns the value of a condition, unless it was given before or the value is none.
+// Adds an option without a value, unless it was given before or conflicts with those before.
+fn with_mark(mark: Mark, asked: Asked) -> Option<Asked>
+    ensures { result ≡ spec.with_mark mark asked }
+{
+    let mut more = asked;
+    match mark {
+        Mark::AsJson => return with_print(asked, Some(Print::Json)),
+        Mark::AsNotes => return with_print(asked, Some(Print::Notes)),
+        Mark::AsEvidence => {
+            if asked.evidence {
+                return None;
+            }
+            more.evidence = true;
+        }
+        Mark::AsSummary => {
+            if asked.summary {
+                return None;
+            }
+            more.summary = true;
+        }
+    }
+    Some(more)
+}
+
+// Returns the value of a condition, unless it was given before or the value is invalid.
 fn once<T: Copy>(before: Option<T>, given: Option<T>) -> Option<T>
     ensures { result ≡ spec.once before given }
 {
@@ -245,13 +285,27 @@ fn word_met(word: &[u8]) -> Met<'_>
     if !matches!(word, [b'-', ..]) {
         return Met::Name;
     }
+    match mark_named(word) {
+        Some(mark) => Met::Marked(mark),
+        None => option_met(word),
+    }
+}
+
+// Returns the option without a value of this name.
+fn mark_named(word: &[u8]) -> Option<Mark>
+    ensures { result ≡ spec.mark_named word.now }
+{
     if is_json(word) {
-        return Met::Json;
+        Some(Mark::AsJson)
+    } else if word == b"--notes".as_slice() {
+        Some(Mark::AsNotes)
+    } else if word == b"--evidence".as_slice() {
+        Some(Mark::AsEvidence)
+    } else if word == b"--summary".as_slice() {
+        Some(Mark::AsSummary)
+    } else {
+        None
     }
-    if word == b"--notes".as_slice() {
-        return Met::Notes;
-    }
-    option_met(word)
 }
 
 // Returns the use of an option with a value that a word is.
@@ -277,7 +331,7 @@ fn met_as(choice: Choice, word: &[u8]) -> Option<Met<'_>>
     }
 }
 
-/// Returns the text behind this front, or None if it does not begin with it.
+/// Returns the text after this front, or None if it does not begin with it.
 pub(crate) fn after_front<'a>(front: &[u8], text: &'a [u8]) -> Option<&'a [u8]>
     ensures { option_map (λ rest. rest.now) result ≡ behind front.now text.entry.now }
 {

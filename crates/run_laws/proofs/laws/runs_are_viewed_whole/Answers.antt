@@ -5,6 +5,7 @@ pub returns : goal.returns
 returns c =
     runs_viewed_whole (record {
       read_back = c.runs_are_read_back.ensures;
+      clean = c.lawful_keeps_clean.ensures;
       counted = c.items_are_counted.ensures;
       outgoing = c.items_go_out.ensures;
       fit = c.entries_fit.ensures;

@@ -1,7 +1,7 @@
 use Rattle.std.proofs.Common.{Bool, subst, inl, inr}
 use Rattle.std.proofs.lemmas.Result.{err_from_is_err_and}
 use Rattle.pcap_file.specs.Reads.{shown as packet_of}
-use Rattle.run_view.specs.Ahead.{GoesOn, left_in}
+use Rattle.run_view.specs.ReadAhead.{GoesOn, left_in}
 use Rattle.run_view.specs.Items.{frames_of, packets_of}
 use Rattle.run_view.specs.Runs.{sources_of}
 use Rattle.run_view.proofs.Ending.{is_over, took_last}

@@ -1,4 +1,4 @@
-use Rattle.std.proofs.Common.{◌++◌, refl}
+use Rattle.std.proofs.Common.{◌++◌}
 use Rattle.pcap_file.specs.Reads.{shown}
 use Rattle.run_view.proofs.item.add_frame.Goals as goal
 
@@ -7,7 +7,7 @@ returns-clause-added g c all head own older count at gathers =
     record {
       frame = shown c.in-Some.frame;
       stands = rw c.in-Some.is at (c.in_ok-frame.ensures.reads head all (own ++ older) at);
-      gathers = c.in_ok-note_frame.ensures own (shown c.in-Some.frame) count refl gathers;
+      gathers = c.in_ok-note_frame.ensures own count gathers;
     }
 
 pub returns-clause-ready : goal.returns-clause-ready

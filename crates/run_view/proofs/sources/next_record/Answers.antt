@@ -5,7 +5,7 @@ use Rattle.capture_input.specs.declared.input.Input.{Input}
 use Rattle.capture_input.specs.Inputs.{Walk}
 use Rattle.capture_input.specs.Reading.{is_open_in}
 use Rattle.capture_input.specs.Reads.{Reads}
-use Rattle.run_view.specs.Standing.{IsBehind}
+use Rattle.run_view.specs.Readers.{IsBehind}
 use Rattle.run_view.proofs.Records.{record_stops}
 use Rattle.run_view.proofs.sources.next_record.Goals as goal
 

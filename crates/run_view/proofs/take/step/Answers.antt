@@ -2,12 +2,12 @@ use Rattle.std.proofs.Common.{inl, inr, refl, sym, ap, subst, ◌∙◌, arith, 
 use Rattle.std.specs.Prelude.{IfSome}
 use Rattle.std.proofs.lemmas.Result.{err_from_is_err_and}
 use Rattle.rule_book.specs.Entries.{plain}
-use Rattle.run_view.specs.Ahead.{line_in}
+use Rattle.run_view.specs.ReadAhead.{line_in}
 use Rattle.run_view.specs.Forms.{version_of}
 use Rattle.run_view.proofs.ReportNext.{IsNoNext}
 use Rattle.run_view.specs.Runs.{sources_of}
-use Rattle.run_view.specs.SoFar.{turn_in}
-use Rattle.run_view.specs.declared.told.Turn.{Turn}
+use Rattle.run_view.specs.ViewerAt.{turn_in}
+use Rattle.run_view.specs.declared.turn.Turn.{Turn}
 use Rattle.run_view.proofs.Finished.{no_line}
 use Rattle.run_view.proofs.OtherLines.{amiss_so, few_turn, none_told, other_number, part_told, told_so}
 use Rattle.run_view.proofs.NextLine.{going_ahead, going_at, going_on, next_line_of, next_other}

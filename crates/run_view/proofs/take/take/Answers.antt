@@ -1,7 +1,7 @@
 use Rattle.std.proofs.Common.{◌≡◌, ◌+◌, Bool, true, inr, sym, subst, if◌then◌else◌}
 use Rattle.rule_book.specs.Entries.{plain}
 use Rattle.run_view.specs.Items.{line_by, waits}
-use Rattle.run_view.specs.SoFar.{Taken, ends_of}
+use Rattle.run_view.specs.ViewerAt.{Taken, ends_of}
 use Rattle.run_view.proofs.Ending.{some_waits}
 use Rattle.run_view.proofs.Results.{if_err, on_ok}
 use Rattle.run_view.proofs.Stopping.{says_more}

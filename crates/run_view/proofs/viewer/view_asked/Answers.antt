@@ -2,19 +2,19 @@ use Rattle.std.proofs.Common.{ap, inl, inr, ◌∙◌}
 use Rattle.pcap_file.specs.declared.head.Head.{Head}
 use Rattle.std.proofs.lemmas.Result.{err_from_is_err_and}
 use Rattle.run_view.specs.Runs.{counts_of, sources_of}
-use Rattle.run_view.specs.SoFar.{ends_of}
+use Rattle.run_view.specs.ViewerAt.{ends_of}
 use Rattle.run_view.proofs.Finished.{files_more, no_first}
-use Rattle.run_view.proofs.Results.{if_err, on_ok}
+use Rattle.run_view.proofs.Results.{if_err, if_ok}
 use Rattle.run_view.proofs.Starting.{first_at, first_taken, fresh_so_far, two_links, viewed_fresh}
 use Rattle.run_view.proofs.Stopping.{says_more}
 use Rattle.run_view.proofs.viewer.view_asked.Goals as goal
 
 pub returns-clause-viewed : goal.returns-clause-viewed
 returns-clause-viewed g c =
-    on_ok c.view_entries.result c.view_entries.ensures.viewed
-    (λ viewed.
+    if_ok c.view_entries.result c.view_entries.ensures.viewed
+    (λ status viewed.
     viewed_fresh c.in_ok-viewer.viewer c.args.asked c.in_ok-form.form c.read_form.new.lines c.in_ok-reader.reader c.in_ok-frames.frames _ _ _ _ _ _
-    c.in_ok-viewer.ensures
+    status c.in_ok-viewer.ensures
     (c.in_ok-frames.ensures.same ∙ ap (λ (h : Head). h.link) c.head.ensures)
     (first_taken c.in_ok-lines.lines c.read_form.new.lines c.in_ok-viewer.viewer.lines _ _ _ (c.in_ok-lines.ensures _)
     c.in_ok-viewer.ensures.lines_are c.in_ok-form.ensures.first)
@@ -77,3 +77,8 @@ pub returns-in_err-print_opening-clause-output_faults : goal.returns-in_err-prin
 returns-in_err-print_opening-clause-output_faults g c =
     let p = err_from_is_err_and c.from_residual-in_err-print_opening.result c.from_residual-in_err-print_opening.ensures.1 in
     rw p.1 (record { later = c.in_ok-frames.ensures.faults.later; kept = tt })
+
+pub returns-in_err-print_opening-clause-out_faults : goal.returns-in_err-print_opening-clause-out_faults
+returns-in_err-print_opening-clause-out_faults g c =
+    let p = err_from_is_err_and c.from_residual-in_err-print_opening.result c.from_residual-in_err-print_opening.ensures.1 in
+    rw p.1 (record { later = c.print_opening.ensures.faults.later; kept = tt })

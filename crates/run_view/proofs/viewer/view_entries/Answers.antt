@@ -2,8 +2,8 @@ use Rattle.std.proofs.Common.{◌∙◌, arith}
 use Rattle.std.proofs.lemmas.Result.{err_from_is_err_and}
 use Rattle.run_view.specs.Runs.{counts_of}
 use Rattle.run_view.proofs.Ending.{whole_at, whole_now}
-use Rattle.run_view.proofs.Results.{if_err, on_ok}
-use Rattle.run_view.proofs.Stopping.{rest_more, rose_within, says_more}
+use Rattle.run_view.proofs.Results.{both_ok, if_err, if_ok}
+use Rattle.run_view.proofs.Stopping.{rest_more, rose_within, says_more, to_its_end}
 use Rattle.run_view.proofs.viewer.view_entries.Goals as goal
 
 pub returns-in_err-step-clause-stops : goal.returns-in_err-step-clause-stops
@@ -38,10 +38,13 @@ returns-clause-stops g c =
 
 pub returns-clause-viewed : goal.returns-clause-viewed
 returns-clause-viewed g c =
-    on_ok c.close.result c.close.ensures.shows
-    (λ closed head before so_far.
+    if_ok c.close.result (both_ok _ _ c.close.result c.close.ensures.shows c.close.ensures.answers)
+    (λ status closed head before so_far.
     let same = c.in_ok-step.ensures.same in
     let ended = rw c.if-branch.false at (c.in_ok-step.ensures.going head before _ (c.entries.invariant.going head before so_far)) in
     whole_at (same.asked ∙ c.entries.invariant.asked) (same.form ∙ c.entries.invariant.form) (same.head ∙ c.entries.invariant.head)
-    (whole_now c.step.new.viewer c.check_ends.new.viewer head before _ _ _ _ c.in_ok-check_ends.ensures.same closed ended.going
+    (whole_now c.step.new.viewer c.check_ends.new.viewer head before _ _ _ _ status c.in_ok-check_ends.ensures.same closed.1 closed.0 ended.going
     (c.in_ok-check_ends.ensures.over head before _ _ _ ended)))
+
+pub returns-clause-answers : goal.returns-clause-answers
+returns-clause-answers g c = if_ok c.close.result c.close.ensures.answers (λ status is. to_its_end _ _ status is)

@@ -1,7 +1,7 @@
 use Rattle.std.proofs.Common.{◌≡◌, ◌-◌, ◌^◌, []}
 use Rattle.pcap_file.specs.declared.head.Head.{Head}
-use Rattle.run_view.specs.Ahead.{left_in}
-use Rattle.run_view.specs.SoFar.{Ends, MayTake, SoFar, ends_of, lines_in}
+use Rattle.run_view.specs.ReadAhead.{left_in}
+use Rattle.run_view.specs.ViewerAt.{Ends, MayTake, ViewerAt, ends_of, lines_in}
 use Rattle.run_view.specs.Progress.{Going}
 use Rattle.run_view.proofs.viewer.view_entries.Given as goal
 
@@ -12,7 +12,7 @@ invariant-entries g l = record {
   form : l.viewer.form ≡ l.fn.viewer.form;
   head : l.viewer.files.head ≡ l.fn.viewer.files.head;
   going : (head : Head) (before : Ends)
-      → SoFar l.fn.viewer head before (ends_of (g.I.Source.left l.fn.input) (g.O.Source.left l.fn.output) (g.E.Events.shown l.fn.out)) []
+      → ViewerAt l.fn.viewer head before (ends_of (g.I.Source.left l.fn.input) (g.O.Source.left l.fn.output) (g.E.Events.shown l.fn.out)) []
       → Going l.viewer head before (ends_of (g.I.Source.left l.input) (g.O.Source.left l.output) (g.E.Events.shown l.out))
       (left_in l.fn.viewer.lines (g.R.Source.left l.fn.report)) (left_in l.viewer.lines (g.R.Source.left l.report));
   input_kept : g.I.Source.fault_count l.input ≡ g.I.Source.fault_count l.fn.input;

@@ -1,7 +1,7 @@
 -- The octets of a report that are read ahead, and its lines (this project's profile).
 use Rattle.std.specs.Prelude.{◌≡◌, ◌⊎◌, ℕ, ◌+◌, ◌≤◌, Bool, true, false, List, slice_range, Option, IfSome}
 use Rattle.std.specs.Io.KnownBytes.{Consumes, IsAtEnd, prepend_known}
-use Rattle.run_view.specs.Gives.{IsSomeOctet}
+use Rattle.run_view.specs.Contents.{IsSomeOctet}
 use Rattle.run_view.specs.Lines.{front_line}
 use Rattle.run_view.specs.declared.line.Lines.{Lines}
 
@@ -9,7 +9,7 @@ use Rattle.run_view.specs.declared.line.Lines.{Lines}
 abbrev pub ahead_in : Lines → List ℕ
 ahead_in lines = slice_range lines.buffer.value lines.start lines.filled
 
--- the octets left: those that were read ahead, and then those of the source, where it tells them
+-- the octets left: those that were read ahead, and then those of the source, where they are known
 abbrev pub left_in : Lines → (left : Option (List ℕ)) → Option (List ℕ)
 left_in lines left = prepend_known (ahead_in lines) left
 

@@ -1,5 +1,5 @@
 //! What the headers of records and frames say, and what differs between them.
-ghost use Rattle.std.specs.Prelude.{◌≡◌, ◌++◌, map, OnOk};
+ghost use Rattle.std.specs.Prelude.{◌≡◌, ◌++◌, true, map, OnOk};
 ghost use Rattle.frame_view.specs.Changes.{changes_of, plain};
 ghost use Rattle.run_view.specs.Items as spec;
 ghost use Rattle.wire_base.specs.declared.address.Link.TheVariants.{Ethernet};
@@ -19,7 +19,7 @@ pub(crate) fn flow_at(link: Link, octets: &[u8]) -> Option<Flow>
     flow_of(link, octets)
 }
 
-/// Returns the type field of the link header where that is there and no IPv4 header can be read.
+/// Returns the type field of the link header where that is present and no IPv4 header can be read.
 pub(crate) fn type_without(flow: Option<Flow>, link: Link, octets: &[u8]) -> Option<u16>
     ensures { result ≡ spec.type_without flow link octets.now }
 {
@@ -29,7 +29,7 @@ pub(crate) fn type_without(flow: Option<Flow>, link: Link, octets: &[u8]) -> Opt
     }
 }
 
-// Returns the type field of an Ethernet header where that is there.
+// Returns the type field of an Ethernet header where that is present.
 fn type_in(octets: &[u8]) -> Option<u16>
     ensures { result ≡ spec.type_in Ethernet octets.now }
 {
@@ -47,31 +47,43 @@ pub(crate) fn length_at(link: Link, octets: &[u8]) -> u64
     length_of(link, octets)
 }
 
-/// The octets of a record, the link that they begin with, and which frames of a line norm made
-/// itself.
+/// A record as it is compared with the frames of a line.
 #[derive(Clone, Copy)]
 pub(crate) struct Original<'a> {
     pub(crate) link: Link,
+    /// Which of the frames norm made itself.
     pub(crate) kinds: Kinds,
+    /// The line says that its one frame is a copy of the record.
+    pub(crate) passed: bool,
+    /// The number of the record.
+    pub(crate) number: u32,
+    pub(crate) seconds: u32,
+    pub(crate) fraction: u32,
     pub(crate) octets: &'a [u8],
 }
 
-/// Adds what differs between a record and the frame of this number; nothing if they are equal, which
-/// costs one comparison. Of a frame that norm made itself it adds that.
+/// Adds what differs between a record and the frame of this number; nothing if they are the same
+/// octets. Of a frame that norm made itself it adds that.
 #[tactic(auto, unfolding(crate::specs::Items::changes_at))]
 pub(crate) fn add_changes_at(
     alloc: Global,
     original: Original<'_>,
     frame: &[u8],
     number: u32,
+    same: bool,
     changes: &mut Vec<Change>,
 ) -> Result<(), NoMemory>
+    requires same { same ≡ true → frame.now ≡ original.octets.now }
     ensures { OnOk result (map plain changes.new.items ≡ map plain changes.old.items
         ++ spec.changes_at original.entry.link original.entry.kinds number original.entry.octets.now frame.now) }
 {
     match made_at(original.kinds, number) {
         Some(kind) => add_made(original.link, frame, number, kind, changes),
-        None => add_compared(
+        None if same => {
+            fields_determine_frames();
+            Ok(())
+        }
+        None => add_changes(
             alloc,
             original.link,
             original.octets,
@@ -80,22 +92,4 @@ pub(crate) fn add_changes_at(
             changes,
         ),
     }
-}
-
-// Adds what differs between a record and the frame of this number.
-fn add_compared(
-    alloc: Global,
-    link: Link,
-    octets: &[u8],
-    frame: &[u8],
-    number: u32,
-    changes: &mut Vec<Change>,
-) -> Result<(), NoMemory>
-    ensures { OnOk result (map plain changes.new.items ≡ map plain changes.old.items ++ changes_of link number octets.now frame.now) }
-{
-    fields_determine_frames();
-    if octets == frame {
-        return Ok(());
-    }
-    add_changes(alloc, link, octets, frame, number, changes)
 }

@@ -2,7 +2,7 @@ use Rattle.std.proofs.Common.{sym, ◌∙◌, ap, arith}
 use Rattle.rule_book.specs.Text.{last_text}
 use Rattle.rule_book.specs.declared.last.Last.TheVariants.{End}
 use Rattle.rule_book.proofs.Unique.{last_one}
-use Rattle.run_view.proofs.told.is_last.Goals as goal
+use Rattle.run_view.proofs.turn.is_last.Goals as goal
 
 pub returns-in-Some : goal.returns-in-Some
 returns-in-Some c = (

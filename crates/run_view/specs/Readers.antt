@@ -1,5 +1,6 @@
--- Where the readers of the input and of the output stand (this project's profile). Records and frames are lists with the newest at the head. `all` is
--- what a source had left at first, and `left` what it has left now, where it tells them.
+-- The positions of the readers of the input and of the output (this project's profile). Records and
+-- frames are lists with the newest at the head. `all` is what a source had left at first, and
+-- `left` what it has left now, where these are known.
 use Rattle.std.specs.Prelude.{◌≡◌, ◌⊎◌, ℕ, true, List, [], ◌∷◌, length, Option, Some, None, IfSome}
 use Rattle.edge_io.specs.Faults.{Rose}
 use Rattle.wire_base.specs.declared.address.Link.{Link}
@@ -12,12 +13,12 @@ use Rattle.pcap_file.specs.Reads.{shown}
 use Rattle.capture_input.specs.declared.input.Input.{Input}
 use Rattle.capture_input.specs.Inputs.{Walk, packets_in, Took, TookAll}
 use Rattle.capture_input.specs.Reading.{Behind, head_in, is_open_in}
-use Rattle.run_view.specs.Gives.{TookFrames}
+use Rattle.run_view.specs.Contents.{TookFrames}
 use Rattle.run_view.specs.Runs.{IsNoCapture, IsNoInput, IsOfOtherLink}
 use Rattle.run_view.specs.Stops.{Says}
 use Rattle.run_view.specs.declared.stop.Stop.{Stop}
 
--- the input stands behind these records
+-- exactly these records were read of the input
 pub record InputAt (input : Input) (head : Head) (all left : Option (List ℕ)) (packets : List Packet) : Type 0 where
   pub walk : Walk
   pub took : Took None all left head walk
@@ -25,12 +26,12 @@ pub record InputAt (input : Input) (head : Head) (all left : Option (List ℕ)) 
   pub behind : Behind input None walk
   pub head_is : head_in input ≡ head
 
--- the input stands behind some records
+-- some records were read of the input
 pub record IsBehind (input : Input) : Type 0 where
   pub walk : Walk
   pub behind : Behind input None walk
 
--- the input was opened, and stands before its first record
+-- the input was opened, and no record of it was read
 pub record InputOpened (input : Input) (all left : Option (List ℕ)) : Type 0 where
   pub goes_on : is_open_in input ≡ true
   pub stands : InputAt input (head_in input) all left []
@@ -44,7 +45,7 @@ abbrev pub InputReads : (input : Input) (head : Head) (all left : Option (List �
 InputReads input head all left packets None = TookAll None all head packets
 InputReads input head all left packets (Some given) = InputAt input head all left (shown given ∷ packets)
 
--- the reader of the output stands behind these frames
+-- exactly these frames were read of the output
 pub record OutputAt (reader : Reading) (head : Head) (all left : Option (List ℕ)) (frames : List Packet) : Type 0 where
   pub took : TookFrames all left head frames
   pub given_is : reader.given ≡ length frames

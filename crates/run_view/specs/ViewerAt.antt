@@ -1,21 +1,22 @@
--- How far a view has come (this project's profile). Items are a list with the newest at the head. `read`, `written` and `shown` are what the input and
--- the output had left and what was shown at first, and the same with `_now` what they have at the moment, where they tell it.
-use Rattle.std.specs.Prelude.{◌≡◌, ℕ, ◌≤◌, ◌<◌, ◌^◌, ◌*◌, ◌+◌, Bool, true, List, [], ◌∷◌, length, map, Option, if◌then◌else◌}
+-- The progress of a view (this project's profile). Items are a list with the newest at the head.
+-- `read`, `written` and `shown` are what the input and the output had left and what was shown at
+-- first, and the same with `_now` what they have at the moment, where it is known.
+use Rattle.std.specs.Prelude.{◌≡◌, ℕ, ◌≤◌, ◌<◌, ◌^◌, ◌*◌, ◌+◌, Bool, true, false, List, [], ◌∷◌, length, map, Option, if◌then◌else◌}
 use Rattle.pcap_file.specs.declared.head.Head.{Head}
 use Rattle.pcap_file.specs.Reading.{Reading}
 use Rattle.capture_input.specs.declared.input.Input.{Input}
 use Rattle.capture_input.specs.Reading.{head_in}
 use Rattle.view_text.specs.Lines.{plain_line}
-use Rattle.run_view.specs.Chosen.{meets_record, met_of, prints_records}
+use Rattle.run_view.specs.Chosen.{chooses_records, meets_record, met_of}
 use Rattle.run_view.specs.Events.{Event, Shows, chosen_of, newest_event, record_lines, records_shown}
-use Rattle.run_view.specs.Items.{AreItems, Item, Line, by_first, firsts, frames_of, line_of, owed_of, packets_of, seconds, time_of, turn_at, waits}
-use Rattle.run_view.specs.Standing.{InputAt, OutputAt}
-use Rattle.run_view.specs.Shows.{due_event}
+use Rattle.run_view.specs.Items.{AreItems, Item, Line, by_first, firsts, frames_of, line_of, owed_of, packets_of, seconds, turn_at, waits}
+use Rattle.run_view.specs.Readers.{InputAt, OutputAt}
+use Rattle.run_view.specs.ShownLines.{due_event}
 use Rattle.run_view.specs.Steps.{Holds, IsReady}
 use Rattle.run_view.specs.declared.form.Form.{Form}
 use Rattle.run_view.specs.declared.line.Lines.{Lines}
 use Rattle.run_view.specs.declared.show.Printing.{Printing}
-use Rattle.run_view.specs.declared.told.Turn.{Turn}
+use Rattle.run_view.specs.declared.turn.Turn.{Turn}
 use Rattle.run_view.specs.declared.viewer.Viewer.{Viewer}
 use Rattle.run_view.specs.declared.words.Asked.{Asked}
 
@@ -28,24 +29,27 @@ pub record Ends : Type 0 where
 abbrev pub ends_of : (read written : Option (List ℕ)) → (shown : Option (List Event)) → Ends
 ends_of read written shown = record { read = read; written = written; shown = shown }
 
--- if lines of the second engine are still to come, the record that is held is that of the newest line
+-- if lines of the second engine are still to come, the record that is held is that of the newest
+-- line
 abbrev pub HoldsNewest : (viewer : Viewer) → List Item → Type 0
 HoldsNewest viewer [] = Unit {0}
 HoldsNewest viewer (newest ∷ older) = waits viewer.owed ≡ true
-    → Holds newest.packet.octets (time_of viewer.files.head newest.packet) (by_first newest) viewer.held
+    → Holds newest.packet.octets newest.packet.seconds newest.packet.fraction (by_first newest) viewer.held
 
--- of a record of which lines are still to come, what its lines meet and the lines are held; the lines only where the conditions on the record are met
+-- If lines of a record are still to come, what its lines meet is held. The lines are held too, if
+-- the conditions on the record are met and not only a summary is asked for.
 pub record HoldsLines (printing : Printing) (asked : Asked) (form : Form) (head : Head) (items : List Item) : Type 0 where
   pub met : printing.met ≡ met_of asked head items
-  pub lines : meets_record (met_of asked head items) ≡ true → map plain_line printing.lines.items ≡ record_lines form head items
+  pub lines : asked.summary ≡ false → meets_record (met_of asked head items) ≡ true → map plain_line printing.lines.items ≡ record_lines form head items
 
--- so many records are chosen, and the lines of one that is not over are held, if records are shown
+-- this number of records is chosen, and the lines of one that is not over are held, if records are
+-- chosen
 pub record PrintsSo (printing : Printing) (asked : Asked) (form : Form) (head : Head) (owed : ℕ) (items : List Item) : Type 0 where
   pub count : printing.records ≡ chosen_of asked head items
-  pub lines : waits owed ≡ true → prints_records asked ≡ true → HoldsLines printing asked form head items
+  pub lines : waits owed ≡ true → chooses_records asked ≡ true → HoldsLines printing asked form head items
 
 -- these items were read and shown
-pub record SoFar (viewer : Viewer) (head : Head) (before now : Ends) (items : List Item) : Type 0 where
+pub record ViewerAt (viewer : Viewer) (head : Head) (before now : Ends) (items : List Item) : Type 0 where
   pub are : AreItems viewer.form items
   pub input : InputAt viewer.files.input viewer.files.head before.read now.read (packets_of items)
   pub output : OutputAt viewer.files.frames.reader head before.written now.written (frames_of items)
@@ -57,7 +61,7 @@ pub record SoFar (viewer : Viewer) (head : Head) (before now : Ends) (items : Li
   pub printing : PrintsSo viewer.printing viewer.asked viewer.form viewer.files.head viewer.owed items
   pub shown : Shows before.shown now.shown (records_shown viewer.asked viewer.form viewer.files.head items)
 
--- where the next line of the report stands
+-- the position of the next line of the report
 abbrev pub turn_in : Viewer → Turn
 turn_in viewer = turn_at viewer.owed viewer.files.count viewer.second_count viewer.files.frames.count
 
@@ -93,7 +97,7 @@ pub record Taken (viewer : Viewer) (head : Head) (before now : Ends) (items : Li
   pub line_is : line_of item ≡ line
   pub due : due_event viewer.printing ≡ newest_event viewer.asked viewer.form viewer.files.head (item ∷ items)
   pub so_far : (shown : Option (List Event)) → Shows now.shown shown (newest_event viewer.asked viewer.form viewer.files.head (item ∷ items))
-      → SoFar viewer head before (ends_of now.read now.written shown) (item ∷ items)
+      → ViewerAt viewer head before (ends_of now.read now.written shown) (item ∷ items)
 
 -- a view before the first record
 pub record IsFresh (viewer : Viewer) (asked : Asked) (form : Form) (lines : Lines) (input : Input) (reader : Reading) : Type 0 where

@@ -1,5 +1,5 @@
--- What three sources give behind the first line of the report (this project's profile). Lists of items, records and frames have the newest at the head. A source
--- that is None has no known octets.
+-- What three sources give after the first line of the report (this project's profile). Lists of
+-- items, records and frames have the newest at the head. A source that is None has no known octets.
 use Rattle.std.specs.Prelude.{◌≡◌, ℕ, ◌+◌, List, ◌∷◌, drop, Option, Some, None, Ok, IfSome}
 use Rattle.std.specs.Io.KnownBytes.{Consumes}
 use Rattle.pcap_file.specs.declared.head.Head.{Head}
@@ -13,9 +13,10 @@ use Rattle.run_view.specs.Forms.{version_of}
 use Rattle.run_view.specs.Items.{Item, end_text, frames_of, owed_of, packets_of, text_by, turn_of}
 use Rattle.run_view.specs.Runs.{Sources}
 use Rattle.run_view.specs.declared.form.Form.{Form}
-use Rattle.run_view.specs.declared.told.Turn.{Turn}
+use Rattle.run_view.specs.declared.turn.Turn.{Turn}
 
--- Where a source tells its octets, they begin with this head and these frames, and the rest is left.
+-- Where the octets of a source are known, they begin with this head and these frames, and the rest
+-- is left.
 abbrev pub TookFrames : (all left : Option (List ℕ)) → Head → List Packet → Type 0
 TookFrames None left head frames = Unit {0}
 TookFrames (Some octets) None head frames = ⊥
@@ -38,12 +39,13 @@ pub record HasNextLine (form : Form) (items : List Item) (left : Option (List �
   pub behind : Option (List ℕ)
   pub told : ToldNext (version_of form) (turn_of items) left behind entry
 
--- the report has the last line of a run of these items, of which none is wanting, and nothing behind it
+-- the report has the last line of a run of these items, none of which is missing, and nothing after
+-- it
 pub record IsOver (items : List Item) (left : Option (List ℕ)) : Type 0 where
   pub none_owed : owed_of items ≡ 0
   pub is : IfSome left (λ octets. octets ≡ end_text items)
 
--- the three sources are over behind these items
+-- the three sources are over after these items
 pub record AreOver (s : Sources) (head written : Head) (items : List Item) (left : Option (List ℕ)) : Type 0 where
   pub report : IsOver items left
   pub records : TookAll None s.input head (packets_of items)

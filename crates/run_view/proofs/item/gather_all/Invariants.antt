@@ -2,9 +2,9 @@ use Rattle.std.proofs.Common.{◌≡◌, ◌+◌, ℕ, List}
 use Rattle.std.specs.Prelude.{Option}
 use Rattle.pcap_file.specs.declared.head.Head.{Head}
 use Rattle.pcap_file.specs.Records.{Packet}
-use Rattle.run_view.specs.Standing.{OutputAt}
-use Rattle.run_view.specs.Steps.{FramesRead, MayRead}
-use Rattle.run_view.proofs.item.gather.Given as goal
+use Rattle.run_view.specs.Readers.{OutputAt}
+use Rattle.run_view.specs.Steps.{FramesRead, MayRead, plain_original}
+use Rattle.run_view.proofs.item.gather_all.Given as goal
 
 abbrev pub invariant-loop-number : goal.invariant-loop-number
 invariant-loop-number g l = record {
@@ -12,5 +12,5 @@ invariant-loop-number g l = record {
   count : l.frames.count ≡ l.fn.frames.count + l.number;
   kept : g.O.Source.fault_count l.output ≡ g.O.Source.fault_count l.fn.output;
   read : (all : Option (List ℕ)) (head : Head) (older : List Packet) → OutputAt l.fn.frames.reader head all (g.O.Source.left l.fn.output) older
-      → FramesRead l.frames all (g.O.Source.left l.output) head older l.original.link l.original.kinds l.original.octets.now l.number l.gathered;
+      → FramesRead l.frames all (g.O.Source.left l.output) head older (plain_original l.original) l.number l.gathered;
 }
