@@ -30,7 +30,8 @@ const PSH: u8 = 8;
 
 const ACK: u8 = 16;
 
-/// A TCP packet with TTL 64: whether it goes inwards, its sequence number, acknowledgment number, flags and payload.
+/// A TCP packet with TTL 64: whether it goes inwards, its sequence number, acknowledgment number,
+/// flags and payload.
 type Packet = (bool, u32, u32, u8, &'static [u8]);
 
 /// The opening of a connection: SYN 999, SYN ACK 5000 and ACK 1000.
@@ -45,8 +46,8 @@ const ABCD: Packet = (true, 1000, 5001, PSH | ACK, b"abcd");
 
 const ABXD: Packet = (true, 1000, 5001, PSH | ACK, b"abXd");
 
-/// An acknowledgment that fixes the base at 1000; octets that end 5 before it; and octets of which the first two are
-/// before it.
+/// An acknowledgment that fixes the base at 1000; octets that end 5 before it; and octets of which
+/// the first two are before it.
 const FIRST_ACK: Packet = (false, 5001, 1000, ACK, b"");
 
 const BELOW: Packet = (true, 990, 5001, PSH | ACK, b"abcde");
@@ -131,7 +132,7 @@ fn line(alloc: Global, words: &[&str]) -> Result<Vec<String>, AllocError> {
     Ok(line)
 }
 
-/// Returns a source of which a call returns at most 7 octets and the call `failing` fails, 0 for none.
+/// Returns a source whose calls return at most 7 octets each. The call `failing` fails, 0 for none.
 fn source_of(alloc: Global, octets: &[u8], failing: u32) -> Result<MemSource, AllocError> {
     let calls = only(alloc, failing)?;
     Ok(MemSource::new(Vec::from_slice(alloc, octets)?, 7, calls))
@@ -143,7 +144,8 @@ const WORDS: &[&str] = &["a", "b", "30"];
 /// No call fails.
 const NONE: (u32, u32, u32) = (0, 0, 0);
 
-// A function that owns sources and sinks is slow to prove at each `?`, so this one does no more.
+// Owns the sources and the sink, and does nothing else: a function that owns them is slow to prove
+// at each `?`.
 fn answers_by(
     alloc: Global,
     words: &[String],
@@ -157,8 +159,8 @@ fn answers_by(
     Ok(answer == status && out.held() == text.as_bytes())
 }
 
-/// Returns whether the audit of a capture and a report has this line and this status. `failing` has the numbers of the
-/// calls that fail of the capture, the report and the output, 0 for none.
+/// Returns whether the audit of a capture and a report has this line and this status. `failing` has
+/// the numbers of the calls that fail of the capture, the report and the output, 0 for none.
 fn answers(
     alloc: Global,
     words: &[&str],
@@ -173,7 +175,8 @@ fn answers(
     answers_by(alloc, &words, &mut capture, &mut report, failing.2, answer)
 }
 
-/// A test case: the packets of a capture, its report, and the line and the status of their audit for 30 routers.
+/// A test case: the packets of a capture, its report, and the line and the status of their audit
+/// for 30 routers.
 type Row = (&'static [Packet], &'static str, &'static str, u8);
 
 const ROWS: [Row; 21] = [
@@ -232,7 +235,7 @@ const ROWS: [Row; 21] = [
         "no 4 octet\n",
         1,
     ),
-    // All octets are before the base, so a FIN may be there too, behind them.
+    // All octets are before the base, so a FIN may be before it too, after them.
     (
         &[FIRST_ACK, BELOW, (true, 995, 5001, FIN | ACK, b"")],
         "norm 2\n1 out pass 1 @1\n2 in pass 1 @1\n3 in pass 1 @1\nend 3 3\n",
@@ -251,7 +254,8 @@ const ROWS: [Row; 21] = [
         "no 2 fin\n",
         1,
     ),
-    // A RST before the base is fixed acknowledges nothing: 998 is then read as offset -2, and not as 2^32 - 2.
+    // A RST before the base is fixed acknowledges nothing: 998 is then read as offset -2, and not
+    // as 2^32 - 2.
     (
         &[EARLY_RESET, FIRST_ACK, WXYZ, ABCD],
         "norm 2\n1 out pass 1 @1\n2 out pass 1 @1\n3 in pass 1 @1\n4 in pass 1 @1\nend 4 4\n",
@@ -336,15 +340,16 @@ fn tells_far(alloc: Global) -> Result<bool, Fail> {
     )
 }
 
-// ACKs of 2^31 - 1 and of 2^32 - 2 octets from 1000 on: the same numbers are then read as offsets 2^32 higher.
+// ACKs of 2^31 - 1 and of 2^32 - 2 octets from 1000 on: the same numbers are then read as offsets
+// 2^32 higher.
 #[test]
 fn numbers_are_read_from_what_is_acknowledged(rt: HostRuntime) -> Result<(), Fail> {
     assert!(rt; tells_far(rt.alloc())?);
     Ok(())
 }
 
-/// A test case: the words, the number of octets of a capture with two packets, the calls that fail, and the line and
-/// the status.
+/// A test case: the words, the number of octets of a capture with two packets, the calls that fail,
+/// and the line and the status.
 type Stop = (
     &'static [&'static str],
     usize,

@@ -8,6 +8,10 @@ mod changes;
 #[cfg(test)]
 mod counts;
 #[cfg(test)]
+mod firsts;
+#[cfg(test)]
+mod keys;
+#[cfg(test)]
 mod lines;
 #[cfg(test)]
 mod notes;
