@@ -17,7 +17,8 @@ use Rattle.bridge_run.specs.declared.tally.Tally.{Tally}
 use Rattle.bridge_run.specs.Summary.{load_settings, eras_of, rules_named, rule_counts}
 use Rattle.bridge_run.specs.Loads.{Counts, IsTallied}
 
--- So far: a lawful trace of the records that were made, which the engine represents, and which the tally counts.
+-- So far: a lawful trace of the records that were made, which the engine represents, and which the
+-- tally counts.
 pub record Going (seed count : ℕ) (load : Making) (engine : Engaged) (tally : Tally) : Type 0 where
   pub trace : List Item
   pub lawful : Lawful load_settings Raw trace

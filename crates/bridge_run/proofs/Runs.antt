@@ -1,4 +1,5 @@
--- A run from record to record, from the head to the last line: what was read, given and counted, and how it stops.
+-- A run from record to record, from the head to the last line: what was read, given and counted,
+-- and how it stops.
 use Rattle.std.proofs.Common.{◌+◌, ◌<◌, ◌-◌, ◌^◌, Bool, true, false, List, [], ◌∷◌, ◌++◌, Option, None, Ok, Err, Result, IfErr, refl, sym, ap, ap₂, subst, ◌∙◌, arith, suc, append-nil, ◌≡◌, ℕ, ◌*◌, ◌≤◌, length}
 use Rattle.std.proofs.lemmas.Bool.Decides.{nat_tests}
 use Rattle.std.specs.Io.KnownBytes.{Appends}
@@ -42,8 +43,10 @@ use Rattle.bridge_run.proofs.Outputs.{capture_part-append, report_part-append, g
 
 -- The state of a run between records. Nothing is claimed of octets that are not known.
 
--- So far: a lawful run over the packets that were taken, whose octets are below 256, and whose times are of 32 bits. If both sides are protected, none of them
--- has a side of its own, and there are fewer than 2^31. The first line, the head, and the frames and lines of the run were written, and nothing failed.
+-- So far: a lawful run over the packets that were taken, whose octets are below 256, and whose
+-- times are of 32 bits. If both sides are protected, none of them has its own side, and there are
+-- fewer than 2^31. The first line, the head, and the frames and lines of the run were written, and
+-- nothing failed.
 pub record SoFar (settings : PlainSettings) (head : Head) (before now : Moment) (walk : Walk) (run : RunTrace) : Type 0 where
   pub lawful : LawfulRun settings head.link run
   pub octets : RunHasOctets settings run
@@ -55,8 +58,8 @@ pub record SoFar (settings : PlainSettings) (head : Head) (before now : Moment) 
   pub given : Given (outputs_of settings.both head (puts settings head.link run)) before.sinks now.sinks
   pub none_rose : NoneRose before now
 
--- The same of some run, which the engines represent under these settings and on the link of the head, with the input after its packets, and `frames` frames
--- written, at most 255 for each record.
+-- The same of some run, which the engines represent under these settings and on the link of the
+-- head, with the input after its packets, and `frames` frames written, at most 255 for each record.
 pub record Going (settings : PlainSettings) (head : Head) (before now : Moment) (engines : Engines) (input : Input) (frames : ℕ) : Type 0 where
   pub walk : Walk
   pub run : RunTrace
@@ -157,7 +160,7 @@ none_rose_after a b c p q = record {
   sinks = record { capture = q.sinks.capture ∙ p.sinks.capture; report = q.sinks.report ∙ p.sinks.report };
 }
 
--- the offset of the next record or block is the one behind the entries read
+-- the offset of the next record or block is the one after the entries read
 place_of : (input : Input) (inside : Option (List ℕ)) (walk : Walk) → Behind input inside walk → place_in input ≡ place_behind walk
 place_of (Classic head reader) inside (records packets) behind = behind.place
 place_of (Sections reader) inside (blocks steps) behind = behind.place
@@ -201,7 +204,7 @@ module _ (settings : PlainSettings) (head : Head) (a b : Moment) (engines : Engi
   put_is : (p : Packet) → next_put (settings_of engines) (link_of engines) going.run p ≡ next_put settings head.link going.run p
   put_is p = ap₂ (λ s l. next_put s l going.run p) going.engine_settings going.engine_link
 
-  -- what was written was handed on before the next record
+  -- the output so far was flushed before the next record
   pub handed : (c : Moment) → c.source ≡ b.source → Unchanged b.sinks c.sinks → Going settings head a c engines input frames
   handed c same kept =
       let now = going.so_far in

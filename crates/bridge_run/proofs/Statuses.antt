@@ -1,4 +1,5 @@
--- The status of a stop: which fault, failed sink or record too many it means, and what the source had left.
+-- The status of a stop: which fault, failed sink or record too many it means, and what the source
+-- had left.
 use Rattle.std.proofs.Common.{◌≡◌, ◌==◌, ℕ, ◌≤◌, true, false, List, length, Option, Some, None, refl, sym, ap, subst, ◌∙◌, arith, ◌⊎◌, inl, inr}
 use Rattle.edge_io.specs.Faults.{Rose}
 use Rattle.capture_input.specs.declared.fault.InputFault.{InputFault}

@@ -1,4 +1,4 @@
--- What holds of the input and the outputs when a run has stopped, status by status.
+-- What holds for the input and the outputs when a run has stopped, status by status.
 use Rattle.std.proofs.Common.{◌≡◌, ℕ, ◌<◌, ◌==◌, List, [], ◌∷◌, ◌++◌, length, take, Option, None, Some, refl, sym, ap, ◌∙◌, subst, append-nil, append_assoc, arith, inl, inr, ◌⊎◌, ◌≤◌, false, true, flat_map}
 use Rattle.std.proofs.Math.Seq.{take-nil}
 use Rattle.std.proofs.KnownBytes.{Appends-trans}
@@ -366,7 +366,7 @@ load_answers seed count status b n p =
 no_load : (seed count : ℕ) (b n : Moment) → LoadStopped seed count 2 b n → ⊥
 no_load seed count b n p = elim (load_answers seed count 2 b n p) [ inl none ↦ omega (arith, none) | inr most ↦ omega (arith, most) ]
 
--- words that were refused
+-- invalid arguments
 pub refused_row : (words : List (List ℕ)) (b n : Moment) → Stopped words 2 b n → EndsRefused words b n
 refused_row words b n (inl refused) = record { fault = refused.0; refused = refused.2; says = refused.3 }
 refused_row words b n (inr (inl wanting)) = absurd (let e = wanting.0 in omega (arith, e))

@@ -1,4 +1,5 @@
--- How the parts of a run over a capture end, before a line reports why it stopped (this project's profile).
+-- How the parts of a run over a capture end, before a line reports why it stopped (this project's
+-- profile).
 use Rattle.std.specs.Prelude.{◌≡◌, ℕ, [], Result, OnOk, IfErr, IfOk}
 use Rattle.norm_settings.specs.Settings.{PlainSettings}
 use Rattle.capture_input.specs.declared.input.Input.{Input}
@@ -20,7 +21,8 @@ pub record Ends {T : Type 0} (settings : PlainSettings) (result : Result T Stop)
   pub finished : OnOk result (Finishes settings before now)
   pub stopped : IfErr result (λ stop. StopsAt settings stop before now)
 
--- the first line and the head were written, and the head was read, and nothing after it; or the run stopped
+-- the first line and the head were written, and the head was read, and nothing after it; or the run
+-- stopped
 pub record Begins (settings : PlainSettings) (result : Result Input Stop) (before now : Moment) : Type 0 where
   pub begun : IfOk result (λ input. Begun settings input before now)
   pub stopped : IfErr result (λ stop. StopsAt settings stop before now)

@@ -1,5 +1,7 @@
--- The outputs of a run over a capture besides those for its records, as one list in the order in which they are written (this project's profile). Lists of
--- outputs for records have the newest at the head. The flushes before records are in no such list, since they give a sink nothing: `hand_outputs` names them.
+-- The outputs of a run over a capture besides those for its records, as one list in the order in
+-- which they are written (this project's profile). Lists of outputs for records have the newest at
+-- the head. The flushes before records are in no such list, since they give a sink nothing:
+-- `hand_outputs` names them.
 use Rattle.std.specs.Prelude.{◌≡◌, ℕ, Bool, List, [], ◌∷◌, ◌++◌}
 use Rattle.pcap_file.specs.declared.head.Head.{Head}
 use Rattle.pcap_file.specs.Heads.{head_octets}
@@ -32,7 +34,8 @@ outputs_of both head (put ∷ older) = outputs_of both head older ++ put_outputs
 abbrev pub end_outputs : (records frames : ℕ) → List Output
 end_outputs records frames = capture_hands_on ∷ to_report (last_text (End records frames)) ∷ report_hands_on ∷ []
 
--- The flushes of both sinks before a record. That they are made if the source may wait, and only then, is tested: no definition states it.
+-- The flushes of both sinks before a record. They are made if and only if the source may wait. This
+-- is tested; no definition states it.
 abbrev pub hand_outputs : List Output
 hand_outputs = capture_hands_on ∷ report_hands_on ∷ []
 
@@ -41,7 +44,8 @@ abbrev pub stop_by : RelayFault → (offset : ℕ) → Stop
 stop_by faults.Capture offset = stops.At kinds.Capture offset
 stop_by faults.Report offset = stops.Report
 
--- Of the next outputs, the first ones were given completely, and then a prefix of the one that failed. So the run stops, at this offset.
+-- Of the next outputs, the first ones were given completely, and then a prefix of the one that
+-- failed. So the run stops, at this offset.
 pub record BreaksOff (behind next : List Output) (offset : ℕ) (stop : Stop) (before now : Sinks) : Type 0 where
   pub fault : RelayFault
   pub broke : relayed.BreaksOff behind next fault before now

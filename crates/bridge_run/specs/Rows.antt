@@ -1,5 +1,6 @@
--- The meaning of each status (this project's profile): what the two sinks were given, and what was taken from the source. Each definition follows from the
--- state at which a run has stopped, by a law. Nothing is claimed of octets that are not known.
+-- The meaning of each status (this project's profile): what the two sinks were given, and what was
+-- taken from the source. Each definition follows from the state at which a run has stopped, by a
+-- law. Nothing is claimed of octets that are not known.
 use Rattle.std.specs.Prelude.{◌≡◌, ℕ, ◌-◌, ◌^◌, ◌<◌, ◌⊎◌, Bool, true, List, [], ◌∷◌, ◌++◌, length, take, Option, None, Err}
 use Rattle.std.specs.Io.KnownBytes.{Appends}
 use Rattle.edge_io.specs.Faults.{Rose}
@@ -36,12 +37,14 @@ capture_octets head puts = head_octets head ++ octets_put head.order puts
 abbrev pub report_octets : (both : Bool) → List Put → List ℕ
 report_octets both puts = heading both ++ text_put puts
 
--- The first octets were given completely, and then a prefix of the next ones, which may be all of them.
+-- The first octets were given completely, and then a prefix of the next ones, which may be all of
+-- them.
 pub record GivenUpTo (first next : List ℕ) (old new : Option (List ℕ)) : Type 0 where
   pub count : ℕ
   pub given : Appends old new (first ++ take count next)
 
--- The first octets were given, and then this line: completely, unless the fault count rose in this call.
+-- The first octets were given, and then this line: completely, unless the fault count rose in this
+-- call.
 abbrev pub Says : (first line : List ℕ) → (before now : Seen) → Type 0
 Says first line before now =
     Appends before.octets now.octets (first ++ line) ⊎ (Rose before.faults now.faults × GivenUpTo first line before.octets now.octets)
@@ -49,16 +52,17 @@ Says first line before now =
 abbrev pub stop_of : StopKind → (offset : ℕ) → List ℕ
 stop_of kind offset = last_text (last.Stop kind offset)
 
--- Statuses 3 to 5, at the head: the capture was given nothing, and the report its first line and the stop, at the offset of the head or of the block that has
--- the fault.
+-- Statuses 3 to 5, at the head: the capture was given nothing, and the report its first line and
+-- the stop, at the offset of the head or of the block that has the fault.
 pub record EndsAtHead (settings : PlainSettings) (fault : InputFault) (before now : Moment) : Type 0 where
   pub offset : ℕ
   pub taken : StopsInHead settings.inside before.source.octets now.source.octets fault offset
   pub capture : Appends before.sinks.capture.octets now.sinks.capture.octets []
   pub report : Says (heading settings.both) (stop_of (fault_kind fault) offset) before.sinks.report now.sinks.report
 
--- Statuses 3 to 5, at the record or block after those of a lawful run: these were taken, and what is left begins with the one at which the run stopped. The
--- capture was given the head and the frames of these packets, the report their lines and the stop, at the offset after them.
+-- Statuses 3 to 5, at the record or block after those of a lawful run: these were taken, and what
+-- is left begins with the one at which the run stopped. The capture was given the head and the
+-- frames of these packets, the report their lines and the stop, at the offset after them.
 pub record EndsAtRecord (settings : PlainSettings) (fault : InputFault) (before now : Moment) : Type 0 where
   pub head : Head
   pub run : RunTrace
@@ -82,8 +86,9 @@ pub record EndsByFault (settings : PlainSettings) (before now : Moment) : Type 0
   pub other : is_faulty fault ≡ true
   pub ends : EndsAtFault settings fault before now
 
--- Status 3, by one record more than allowed if both sides are protected: exactly the octets up to the end of its record or block were taken. The capture was
--- given the head and the frames of the packets before it, the report their lines and the stop, at its offset.
+-- Status 3, by one record more than allowed if both sides are protected: exactly the octets up to
+-- the end of its record or block were taken. The capture was given the head and the frames of the
+-- packets before it, the report their lines and the stop, at its offset.
 pub record EndsByTooMany (settings : PlainSettings) (before now : Moment) : Type 0 where
   pub both : settings.both ≡ true
   pub head : Head
@@ -109,7 +114,8 @@ EndsCut settings before now = EndsAtFault settings faults.Cut before now
 abbrev pub EndsUnread : PlainSettings → (before now : Moment) → Type 0
 EndsUnread settings before now = EndsAtFault settings faults.ReadFault before now
 
--- Status 6, at the head: exactly the head was taken, and the capture was given a prefix of the written head.
+-- Status 6, at the head: exactly the head was taken, and the capture was given a prefix of the
+-- written head.
 pub record CaptureEndsInHead (settings : PlainSettings) (before now : Moment) : Type 0 where
   pub head : Head
   pub walk : Walk
@@ -119,8 +125,9 @@ pub record CaptureEndsInHead (settings : PlainSettings) (before now : Moment) : 
   pub capture : GivenUpTo [] (head_octets head) before.sinks.capture.octets now.sinks.capture.octets
   pub report : Says (heading settings.both) (stop_of kinds.Capture 0) before.sinks.report now.sinks.report
 
--- Status 6, at the newest packet: exactly the octets up to the end of its record or block were taken. The capture was given all octets before its frames, and a
--- prefix of these; the report the lines of the older packets, and the stop at the offset of that record or block.
+-- Status 6, at the newest packet: exactly the octets up to the end of its record or block were
+-- taken. The capture was given all octets before its frames, and a prefix of these; the report the
+-- lines of the older packets, and the stop at the offset of that record or block.
 pub record CaptureEndsInPacket (settings : PlainSettings) (before now : Moment) : Type 0 where
   pub head : Head
   pub packet : Packet
@@ -135,8 +142,10 @@ pub record CaptureEndsInPacket (settings : PlainSettings) (before now : Moment) 
   pub capture : GivenUpTo (capture_octets head (puts settings head.link older)) (put_octets head.order (next_put settings head.link older packet)) before.sinks.capture.octets now.sinks.capture.octets
   pub report : Says (report_octets settings.both (puts settings head.link older)) (stop_of kinds.Capture (newest_place walk)) before.sinks.report now.sinks.report
 
--- Status 6, between records: a capture that buffers, so that its octets are not known, could not be flushed. Exactly the octets up to the end of the newest
--- record or block (of the head, if there is no record) were taken. The report was given all lines of records, and the stop at the offset behind it.
+-- Status 6, between records: a capture that buffers, so that its octets are not known, could not be
+-- flushed. Exactly the octets up to the end of the newest record or block (of the head, if there is
+-- no record) were taken. The report was given all lines of records, and the stop at the offset
+-- after it.
 pub record CaptureEndsBetween (settings : PlainSettings) (before now : Moment) : Type 0 where
   pub head : Head
   pub run : RunTrace
@@ -149,8 +158,9 @@ pub record CaptureEndsBetween (settings : PlainSettings) (before now : Moment) :
   pub untold : before.sinks.capture.octets ≡ None
   pub report : Says (report_octets settings.both (puts settings head.link run)) (stop_of kinds.Capture (place_behind walk)) before.sinks.report now.sinks.report
 
--- Status 6, at the end: a capture that buffers, so that its octets are not known, could not be flushed. All was taken, and the report was given all lines of
--- records, and the stop at the offset of the end.
+-- Status 6, at the end: a capture that buffers, so that its octets are not known, could not be
+-- flushed. All was taken, and the report was given all lines of records, and the stop at the offset
+-- of the end.
 pub record CaptureEndsBehind (settings : PlainSettings) (before now : Moment) : Type 0 where
   pub head : Head
   pub run : RunTrace
@@ -166,14 +176,16 @@ pub record CaptureEndsBehind (settings : PlainSettings) (before now : Moment) : 
 abbrev pub EndsUnwritten : PlainSettings → (before now : Moment) → Type 0
 EndsUnwritten settings before now = CaptureEndsInHead settings before now ⊎ (CaptureEndsInPacket settings before now ⊎ (CaptureEndsBetween settings before now ⊎ CaptureEndsBehind settings before now))
 
--- Status 7, at the first line: nothing was taken, the capture was given nothing, and the report a prefix of that line.
+-- Status 7, at the first line: nothing was taken, the capture was given nothing, and the report a
+-- prefix of that line.
 pub record ReportEndsInFirst (settings : PlainSettings) (before now : Moment) : Type 0 where
   pub untaken : now.source.octets ≡ before.source.octets
   pub capture : Appends before.sinks.capture.octets now.sinks.capture.octets []
   pub report : GivenUpTo [] (heading settings.both) before.sinks.report.octets now.sinks.report.octets
 
--- Status 7, at the line of the newest packet: exactly the octets up to the end of its record or block were taken. The capture was given the frames of all
--- packets, the report the lines of the older ones and a prefix of that line.
+-- Status 7, at the line of the newest packet: exactly the octets up to the end of its record or
+-- block were taken. The capture was given the frames of all packets, the report the lines of the
+-- older ones and a prefix of that line.
 pub record ReportEndsInLine (settings : PlainSettings) (before now : Moment) : Type 0 where
   pub head : Head
   pub packet : Packet
@@ -187,8 +199,9 @@ pub record ReportEndsInLine (settings : PlainSettings) (before now : Moment) : T
   pub capture : Appends before.sinks.capture.octets now.sinks.capture.octets (capture_octets head (next_put settings head.link older packet ∷ puts settings head.link older))
   pub report : GivenUpTo (report_octets settings.both (puts settings head.link older)) (next_put settings head.link older packet).text before.sinks.report.octets now.sinks.report.octets
 
--- Status 7, between records: a report that buffers, so that its octets are not known, could not be flushed. Exactly the octets up to the end of the newest
--- record or block (of the head, if there is no record) were taken. The capture was given the frames of all packets.
+-- Status 7, between records: a report that buffers, so that its octets are not known, could not be
+-- flushed. Exactly the octets up to the end of the newest record or block (of the head, if there is
+-- no record) were taken. The capture was given the frames of all packets.
 pub record ReportEndsBetween (settings : PlainSettings) (before now : Moment) : Type 0 where
   pub head : Head
   pub run : RunTrace
@@ -201,7 +214,8 @@ pub record ReportEndsBetween (settings : PlainSettings) (before now : Moment) : 
   pub capture : Appends before.sinks.capture.octets now.sinks.capture.octets (capture_octets head (puts settings head.link run))
   pub untold : before.sinks.report.octets ≡ None
 
--- Status 7, at the last line: all was taken, the capture was given all, the report all lines of records and a prefix of the last line.
+-- Status 7, at the last line: all was taken, the capture was given all, the report all lines of
+-- records and a prefix of the last line.
 pub record ReportEndsInLast (settings : PlainSettings) (before now : Moment) : Type 0 where
   pub head : Head
   pub run : RunTrace
@@ -221,7 +235,7 @@ EndsUntold settings before now = ReportEndsInFirst settings before now ⊎ (Repo
 abbrev pub UnderWords : List (List ℕ) → (PlainSettings → Type 0) → Type 0
 UnderWords words Row = (settings : PlainSettings) × AsksRun words settings × Row settings
 
--- The words request a load, and this holds of its seed and its number of records.
+-- The words request a load, and this holds for its seed and its number of records.
 abbrev pub UnderLoad : List (List ℕ) → (ℕ → ℕ → Type 0) → Type 0
 UnderLoad words Row = (seed : ℕ) × (count : ℕ) × AsksLoad words seed count × Row seed count
 
@@ -230,7 +244,8 @@ pub record TouchesReport (before now : Moment) : Type 0 where
   pub source_stays : now.source ≡ before.source
   pub capture_stays : now.sinks.capture ≡ before.sinks.capture
 
--- Status 0 of a load: the report was given its summary, nothing failed, and nothing else was touched.
+-- Status 0 of a load: the report was given its summary, nothing failed, and nothing else was
+-- touched.
 pub record EndsSummed (seed count : ℕ) (before now : Moment) : Type 0 where
   pub touches : TouchesReport before now
   pub summed : Summed seed count before.sinks.report.octets now.sinks.report.octets
@@ -241,7 +256,7 @@ pub record EndsSummedInPart (seed count : ℕ) (before now : Moment) : Type 0 wh
   pub touches : TouchesReport before now
   pub summed : SummedInPart seed count before.sinks.report.octets now.sinks.report.octets
 
--- Status 2: the report was given the line that refuses the words, and nothing else happened.
+-- Status 2: the report was given the line on invalid arguments, and nothing else happened.
 pub record EndsRefused (words : List (List ℕ)) (before now : Moment) : Type 0 where
   pub fault : WordFault
   pub refused : asked words ≡ Err fault

@@ -1,4 +1,5 @@
--- The contract of a run's parts, and of a finished run. Nothing is claimed of octets that are not known.
+-- The contract of a run's parts, and of a finished run. Nothing is claimed of octets that are not
+-- known.
 use Rattle.std.specs.Prelude.{◌≡◌, ℕ, ◌-◌, ◌^◌, ◌≤◌, ◌⊎◌, true, List, [], length, Option, Ok, Err}
 use Rattle.capture_input.specs.declared.input.Input.{Input}
 use Rattle.capture_input.specs.Inputs.{Walk, packets_in, EndsAtNewest, Took}
@@ -25,7 +26,8 @@ AsksRun words settings = (names : PlainNames) × (asked words ≡ Ok (command.ru
 abbrev pub IsFew : PlainSettings → RunTrace → Type 0
 IsFew settings run = settings.both ≡ true → length (packets_of run) ≤ 2 ^ 31 - 1
 
--- A finished run over a capture: the words request a run, and under their settings the capture was normalized.
+-- A finished run over a capture: the words request a run, and under their settings the capture was
+-- normalized.
 pub record FinishedRun (words : List (List ℕ)) (source source' capture capture' report report' : Option (List ℕ)) : Type 0 where
   pub settings : PlainSettings
   pub accepted : AsksRun words settings
@@ -47,7 +49,7 @@ Finished words source source' capture capture' report report' =
 abbrev pub IsLoad : List (List ℕ) → Type 0
 IsLoad words = (seed : ℕ) × (count : ℕ) × AsksLoad words seed count
 
--- The words are refused.
+-- The arguments are invalid.
 abbrev pub IsRefused : List (List ℕ) → Type 0
 IsRefused words = (fault : WordFault) × (asked words ≡ Err fault)
 
@@ -67,7 +69,7 @@ pub record Ended (records frames : ℕ) (before now : Sinks) : Type 0 where
   pub given : Given (end_outputs records frames) before now
   pub none_rose : NoSinkRose before now
 
--- the answer to refused words: their fault, in one line of the report
+-- the answer to invalid arguments: their fault, in one line of the report
 pub record Refused (words : List (List ℕ)) (report report' : Option (List ℕ)) (before now : ℕ) : Type 0 where
   pub fault : WordFault
   pub refused : asked words ≡ Err fault

@@ -1,6 +1,7 @@
--- The state when a run has stopped: what was taken from the source, and what was given to the sinks, by the lawful run over the records that were judged (this
--- project's profile). Nothing is claimed of octets that are not known. A run stops at a moment (`Stands`), and then reports why (`StoppedShort`): up to
--- `Stands`, `now` is that moment.
+-- The state when a run has stopped: what was taken from the source, and what was given to the
+-- sinks, by the lawful run over the records that were judged (this project's profile). Nothing is
+-- claimed of octets that are not known. A run stops at a moment (`Stands`), and then reports why
+-- (`StoppedShort`): up to `Stands`, `now` is that moment.
 use Rattle.std.specs.Prelude.{◌≡◌, ℕ, ◌-◌, ◌^◌, ◌⊎◌, true, List, [], ◌∷◌, length, Option, Err}
 use Rattle.pcap_file.specs.declared.head.Head.{Head}
 use Rattle.pcap_file.specs.Records.{Packet}
@@ -25,13 +26,15 @@ use Rattle.bridge_run.specs.Theorem.{Normalized}
 use Rattle.bridge_run.specs.Stops.{FirstFault, Kept, Told, status_of, stop_line, words_line, memory_line}
 use Rattle.bridge_run.specs.Summary.{LoadLeaves, AsksLoad}
 
--- The head could not be read: this is its fault, and what was taken of it. The report has only its first line.
+-- The head could not be read: this is its fault, and what was taken of it. The report has only its
+-- first line.
 pub record StopsAtHead (settings : PlainSettings) (fault : InputFault) (offset : ℕ) (before now : Moment) : Type 0 where
   pub found : StopsInHead settings.inside before.source.octets now.source.octets fault offset
   pub given : Given (first_outputs settings.both) before.sinks now.sinks
 
--- The record or block after those of a lawful run could not be read: this is its fault, and what was taken of it. If both sides are protected, the run has
--- fewer than 2^31 records. The head and all records or blocks before it were taken, and all outputs for the run's packets were given.
+-- The record or block after those of a lawful run could not be read: this is its fault, and what
+-- was taken of it. If both sides are protected, the run has fewer than 2^31 records. The head and
+-- all records or blocks before it were taken, and all outputs for the run's packets were given.
 pub record StopsAtRecord (settings : PlainSettings) (fault : InputFault) (offset : ℕ) (before now : Moment) : Type 0 where
   pub head : Head
   pub run : RunTrace
@@ -45,12 +48,14 @@ pub record StopsAtRecord (settings : PlainSettings) (fault : InputFault) (offset
   pub place : offset ≡ place_behind walk
   pub given : Given (outputs_of settings.both head (puts settings head.link run)) before.sinks now.sinks
 
--- This fault is the first, and at most the octets of its head, record or block were taken, or 12 of a shorter block; if the source failed there, not all of them.
+-- This fault is the first, and at most the octets of its head, record or block were taken, or 12 of
+-- a shorter block; if the source failed there, not all of them.
 abbrev pub Faulty : PlainSettings → InputFault → (offset : ℕ) → (before now : Moment) → Type 0
 Faulty settings fault offset before now = StopsAtHead settings fault offset before now ⊎ StopsAtRecord settings fault offset before now
 
--- Both sides are protected, and there is one record more than allowed, which is not judged. The head and all up to the end of its record or block were taken,
--- and all outputs for the packets before it were given.
+-- Both sides are protected, and there is one record more than allowed, which is not judged. The
+-- head and all up to the end of its record or block were taken, and all outputs for the packets
+-- before it were given.
 pub record StopsAtTooMany (settings : PlainSettings) (offset : ℕ) (before now : Moment) : Type 0 where
   pub both : settings.both ≡ true
   pub head : Head
@@ -79,8 +84,9 @@ pub record StopsAtWrittenHead (settings : PlainSettings) (stop : Stop) (before n
   pub took : Took settings.inside before.source.octets now.source.octets head walk
   pub broke : BreaksOff (first_outputs settings.both) (head_outputs head) 0 stop before.sinks now.sinks
 
--- An output for the newest packet failed. If both sides are protected, there were fewer than 2^31 records. The head and the run's packets were taken, nothing
--- after the record or block of the newest one, and all outputs for the older ones were given.
+-- An output for the newest packet failed. If both sides are protected, there were fewer than 2^31
+-- records. The head and the run's packets were taken, nothing after the record or block of the
+-- newest one, and all outputs for the older ones were given.
 pub record StopsAtPacket (settings : PlainSettings) (stop : Stop) (before now : Moment) : Type 0 where
   pub head : Head
   pub packet : Packet
@@ -93,8 +99,9 @@ pub record StopsAtPacket (settings : PlainSettings) (stop : Stop) (before now : 
   pub took : Took settings.inside before.source.octets now.source.octets head walk
   pub broke : BreaksOff (outputs_of settings.both head (puts settings head.link older)) (put_outputs head.order (next_put settings head.link older packet)) (newest_place walk) stop before.sinks now.sinks
 
--- A sink could not be flushed between records. If both sides are protected, there were fewer than 2^31 records. The head and the run's packets were taken,
--- nothing after the record or block of the newest one, and all outputs for them were given.
+-- A sink could not be flushed between records. If both sides are protected, there were fewer than
+-- 2^31 records. The head and the run's packets were taken, nothing after the record or block of the
+-- newest one, and all outputs for them were given.
 pub record StopsBetween (settings : PlainSettings) (stop : Stop) (before now : Moment) : Type 0 where
   pub head : Head
   pub run : RunTrace
@@ -106,7 +113,8 @@ pub record StopsBetween (settings : PlainSettings) (stop : Stop) (before now : M
   pub took : Took settings.inside before.source.octets now.source.octets head walk
   pub broke : BreaksOff (outputs_of settings.both head (puts settings head.link run)) hand_outputs (place_behind walk) stop before.sinks now.sinks
 
--- An output at the end failed. All was taken (fewer than 2^31 records if both sides are protected), and all outputs for the packets were given.
+-- An output at the end failed. All was taken (fewer than 2^31 records if both sides are protected),
+-- and all outputs for the packets were given.
 pub record StopsAtEnd (settings : PlainSettings) (stop : Stop) (before now : Moment) : Type 0 where
   pub head : Head
   pub run : RunTrace
@@ -118,7 +126,7 @@ pub record StopsAtEnd (settings : PlainSettings) (stop : Stop) (before now : Mom
   pub taken : TakenWhole before.source.octets now.source.octets
   pub broke : BreaksOff (outputs_of settings.both head (puts settings head.link run)) (end_outputs (length (packets_of run)) (count_put (puts settings head.link run))) (place_behind walk) stop before.sinks now.sinks
 
--- A sink failed, at an output, of which it was given a prefix, or at a flush.
+-- A sink failed, at an output, whose prefix it was given, or at a flush.
 abbrev pub Unwritten : PlainSettings → Stop → (before now : Moment) → Type 0
 Unwritten settings stop before now =
     StopsAtFirstLine settings stop before now ⊎ (StopsAtWrittenHead settings stop before now ⊎ (StopsAtPacket settings stop before now ⊎ (StopsBetween settings stop before now
@@ -138,8 +146,9 @@ Stands settings (stops.At kinds.Capture offset) before now = Unwritten settings 
 Stands settings (stops.At kinds.Memory offset) before now = ⊥
 Stands settings stops.Report before now = Unwritten settings stops.Report before now
 
--- A run that stopped before its end. The state at the stop, and the first fault, determine the status. Then the line that reports why was given, and nothing
--- else: a fault in giving it changes no status.
+-- A run that stopped before its end. The state at the stop, and the first fault, determine the
+-- status. Then the line that reports why was given, and nothing else: a fault in giving it changes
+-- no status.
 pub record StoppedShort (settings : PlainSettings) (status : ℕ) (before now : Moment) : Type 0 where
   pub stop : Stop
   pub answered : status ≡ status_of stop
@@ -161,18 +170,21 @@ pub record Finishes (settings : PlainSettings) (before now : Moment) : Type 0 wh
   pub normalized : Normalized settings before.source.octets now.source.octets before.sinks.capture.octets now.sinks.capture.octets before.sinks.report.octets now.sinks.report.octets
   pub none_rose : NoneRose before now
 
--- the state at each status under given settings: 0 at the end, 8 at opening, and otherwise at a stop between them
+-- the state at each status under given settings: 0 at the end, 8 at opening, and otherwise at a
+-- stop between them
 abbrev pub StoppedUnder : PlainSettings → (status : ℕ) → (before now : Moment) → Type 0
 StoppedUnder settings status before now =
     ((status ≡ 0) × Finishes settings before now) ⊎ (((status ≡ 8) × SaysOnly memory_line before now) ⊎ StoppedShort settings status before now)
 
--- A load touches neither the source nor the capture; what it leaves in the report depends on its status.
+-- A load touches neither the source nor the capture; what it leaves in the report depends on its
+-- status.
 pub record LoadStopped (seed count status : ℕ) (before now : Moment) : Type 0 where
   pub source_stays : now.source ≡ before.source
   pub capture_stays : now.sinks.capture ≡ before.sinks.capture
   pub leaves : LoadLeaves seed count status before.sinks.report now.sinks.report
 
--- the same of words: 2 if they are refused, 8 if there was not enough memory for them, and otherwise by the settings or the load that they request
+-- the same of words: 2 if they are invalid, 8 if memory could not be allocated for them, and
+-- otherwise by the settings or the load that they request
 abbrev pub Stopped : (words : List (List ℕ)) → (status : ℕ) → (before now : Moment) → Type 0
 Stopped words status before now =
     ((fault : WordFault) × (status ≡ 2) × (asked words ≡ Err fault) × SaysOnly (words_line (number_of fault)) before now)

@@ -1,4 +1,5 @@
--- Why a run stops before it has finished, the status for each reason, and the lines that report it (this project's profile).
+-- Why a run stops before it has finished, the status for each reason, and the lines that report it
+-- (this project's profile).
 use Rattle.std.specs.Prelude.{◌≡◌, ℕ, ◌+◌, ◌^◌, ◌==◌, ◌⊎◌, Bool, true, false, List, ◌∷◌, [], ◌++◌, length, codes, Option, Some, None}
 use Rattle.std.specs.Io.KnownBytes.{Appends}
 use Rattle.edge_io.specs.Faults.{Rose}
@@ -56,7 +57,8 @@ abbrev pub Faulted : Bool → (before now : Seen) → Type 0
 Faulted true before now = Rose before.faults now.faults
 Faulted false before now = now.faults ≡ before.faults
 
--- the first fault of the sinks is that of the stop's status: 6 the capture's, 7 the report's, and otherwise none
+-- the first fault of the sinks is that of the stop's status: 6 the capture's, 7 the report's, and
+-- otherwise none
 pub record FirstSinkFault (stop : Stop) (before now : Sinks) : Type 0 where
   pub capture : Faulted (status_of stop == 6) before.capture now.capture
   pub report : Faulted (status_of stop == 7) before.report now.report
@@ -72,8 +74,9 @@ is_faulty faults.Cut = false
 is_faulty faults.ReadFault = false
 is_faulty _ = true
 
--- Both sides are protected, and the octets begin with 2^31 records, one more than allowed; the newest of them, or its block, has this offset. The name of the
--- interface on the inside is that of the settings, here and below.
+-- Both sides are protected, and the octets begin with 2^31 records, one more than allowed; the
+-- newest of them, or its block, has this offset. The name of the interface on the inside is that of
+-- the settings, here and below.
 pub record BeginsTooMany (settings : PlainSettings) (octets : List ℕ) (offset : ℕ) : Type 0 where
   pub both : settings.both ≡ true
   pub head : Head
@@ -88,7 +91,8 @@ pub record BeginsTooMany (settings : PlainSettings) (octets : List ℕ) (offset 
 abbrev pub AreFew : PlainSettings → List ℕ → Type 0
 AreFew settings octets = (offset : ℕ) → BeginsTooMany settings octets offset → ⊥
 
--- The octets of the source are known, their first fault is that they are cut short, and if both sides are protected they have fewer than 2^31 records.
+-- The octets of the source are known, their first fault is that they are cut short, and if both
+-- sides are protected they have fewer than 2^31 records.
 pub record IsCutShort (settings : PlainSettings) (source : Option (List ℕ)) : Type 0 where
   pub octets : List ℕ
   pub told : source ≡ Some octets
@@ -101,13 +105,15 @@ abbrev pub HasFault : PlainSettings → (octets : List ℕ) → Type 0
 HasFault settings octets =
     ((fault : InputFault) × (offset : ℕ) × (is_faulty fault ≡ true) × FailsAt settings.inside octets fault offset) ⊎ ((offset : ℕ) × BeginsTooMany settings octets offset)
 
--- The octets of the source are known, and their first fault is not a cut, or they begin with one record more than allowed.
+-- The octets of the source are known, and their first fault is not a cut, or they begin with one
+-- record more than allowed.
 pub record IsFaulty (settings : PlainSettings) (source : Option (List ℕ)) : Type 0 where
   pub octets : List ℕ
   pub told : source ≡ Some octets
   pub faulty : HasFault settings octets
 
--- The octets of the source are known, and they are an input with its end and without fault. If both sides are protected, it has fewer than 2^31 records.
+-- The octets of the source are known, and they are an input with its end and without fault. If both
+-- sides are protected, it has fewer than 2^31 records.
 pub record IsWhole (settings : PlainSettings) (source : Option (List ℕ)) : Type 0 where
   pub octets : List ℕ
   pub told : source ≡ Some octets
@@ -116,32 +122,38 @@ pub record IsWhole (settings : PlainSettings) (source : Option (List ℕ)) : Typ
   pub input : IsInput settings.inside octets head packets
   pub few : AreFew settings octets
 
--- If the octets of the source are known, and both sides are protected, they have fewer than 2^31 records.
+-- If the octets of the source are known, and both sides are protected, they have fewer than 2^31
+-- records.
 abbrev pub WereFew : PlainSettings → (source : Option (List ℕ)) → Type 0
 WereFew settings None = Unit {0}
 WereFew settings (Some octets) = AreFew settings octets
 
--- If the octets of the source are known, their first fault is that they are cut short, and if both sides are protected they have fewer than 2^31 records.
+-- If the octets of the source are known, their first fault is that they are cut short, and if both
+-- sides are protected they have fewer than 2^31 records.
 pub record WasCut (settings : PlainSettings) (source : Option (List ℕ)) : Type 0 where
   pub offset : ℕ
   pub fails : HasFaultAt settings.inside source faults.Cut offset
   pub few : WereFew settings source
 
--- If the octets of the source are known, they begin with one record more than allowed; both sides are protected in any case.
+-- If the octets of the source are known, they begin with one record more than allowed; both sides
+-- are protected in any case.
 abbrev pub WasTooMany : PlainSettings → (source : Option (List ℕ)) → (offset : ℕ) → Type 0
 WasTooMany settings None offset = settings.both ≡ true
 WasTooMany settings (Some octets) offset = BeginsTooMany settings octets offset
 
--- If the octets of the source are known, their first fault is not a cut, or they begin with one record more than allowed.
+-- If the octets of the source are known, their first fault is not a cut, or they begin with one
+-- record more than allowed.
 abbrev pub WasFaulty : PlainSettings → (source : Option (List ℕ)) → Type 0
 WasFaulty settings source =
     ((fault : InputFault) × (offset : ℕ) × (is_faulty fault ≡ true) × HasFaultAt settings.inside source fault offset) ⊎ ((offset : ℕ) × WasTooMany settings source offset)
 
--- If the octets of the source are known, those taken are an accepted head and whole records or blocks behind it.
+-- If the octets of the source are known, those taken are an accepted head and whole records or
+-- blocks after it.
 abbrev pub TookHead : PlainSettings → (source source' : Option (List ℕ)) → Type 0
 TookHead settings source source' = (head : Head) × (walk : Walk) × Took settings.inside source source' head walk
 
--- A sink was at most flushed: its octets are unchanged, and so is its fault count if they are known.
+-- A sink was at most flushed: its octets are unchanged, and so is its fault count if they are
+-- known.
 pub record Kept (before now : Seen) : Type 0 where
   pub octets : now.octets ≡ before.octets
   pub faults : (octets : List ℕ) → before.octets ≡ Some octets → now.faults ≡ before.faults
@@ -150,7 +162,7 @@ pub record Kept (before now : Seen) : Type 0 where
 abbrev pub Told : (old new : Option (List ℕ)) → (before now : ℕ) → List ℕ → Type 0
 Told old new before now line = Appends old new line ⊎ (Rose before now × AppendsPart old new line)
 
--- the line that refuses words, by the number of the fault, which is one digit
+-- the line on invalid arguments, by the number of the fault, which is one digit
 abbrev pub words_line : ℕ → List ℕ
 words_line number = codes "stop words " ++ (48 + number) ∷ 10 ∷ []
 

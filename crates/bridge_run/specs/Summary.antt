@@ -1,4 +1,5 @@
--- The report of a load: the summary of the one lawful trace of its records (this project's profile). A trace is a list with the newest item at the head.
+-- The report of a load: the summary of the one lawful trace of its records (this project's
+-- profile). A trace is a list with the newest item at the head.
 use Rattle.std.specs.Prelude.{◌≡◌, ℕ, ◌+◌, ◌==◌, ◌⊎◌, not, Bool, List, [], ◌∷◌, ◌++◌, length, map, filter, reverse, Option, Ok, if◌then◌else◌}
 use Rattle.std.specs.List.{flat_map, count_by}
 use Rattle.std.specs.Option.{is_some}
@@ -57,7 +58,8 @@ rule_counts rules = map (λ rule. record { rule = rule; count = count_by (is_sam
 abbrev pub rule_line : RuleCount → LoadLine
 rule_line row = lines.Rule row.rule row.count
 
--- the lines of the summary of a trace: the parameters of the load, the records, the frames written, the eras that began, each rule that was named, and the end
+-- the lines of the summary of a trace: the parameters of the load, the records, the frames written,
+-- the eras that began, each rule that was named, and the end
 abbrev pub summary_lines : (seed count : ℕ) → List Item → List LoadLine
 summary_lines seed count trace =
     lines.Load seed count ∷ lines.Records (length trace) ∷ lines.Packets (frame_count trace) ∷ lines.Eras (eras_begun trace)
@@ -66,7 +68,8 @@ summary_lines seed count trace =
 abbrev pub summary_text : (seed count : ℕ) → List Item → List ℕ
 summary_text seed count trace = flat_map load_text (summary_lines seed count trace)
 
--- The trace of a load: it has exactly the load's records, and is lawful under the settings of a load.
+-- The trace of a load: it has exactly the load's records, and is lawful under the settings of a
+-- load.
 pub record IsTraceOf (seed count : ℕ) (trace : List Item) : Type 0 where
   pub lawful : Lawful load_settings Raw trace
   pub records : packets trace ≡ reverse (Generated seed count)
@@ -83,8 +86,8 @@ pub record SummedInPart (seed count : ℕ) (report report' : Option (List ℕ)) 
   pub of_load : IsTraceOf seed count trace
   pub written : AppendsPart report report' (summary_text seed count trace)
 
--- what a load that returns this status leaves in the report: at 0 the summary, and no fault; at 7 a prefix of it, and a fault; at 8 only the line that reports
--- that memory could not be allocated
+-- What a load that returns this status leaves in the report. At 0: the summary, and no fault. At 7:
+-- a prefix of it, and a fault. At 8: only the line that reports that memory could not be allocated.
 abbrev pub LoadLeaves : (seed count status : ℕ) → (before now : Seen) → Type 0
 LoadLeaves seed count status before now =
     ((status ≡ 0) × Summed seed count before.octets now.octets × (now.faults ≡ before.faults))

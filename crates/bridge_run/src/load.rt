@@ -30,7 +30,8 @@ use wire_base::{Addr, Prefix};
 /// - 7 for a fault of the report;
 /// - 8 if memory could not be allocated at opening.
 ///
-/// Nothing is written before the last record was judged.
+/// Nothing is written before the last record was judged. The settings are the default ones, with
+/// the prefix 10.0.0.0/8.
 pub fn run_load<R: Sink>(alloc: Global, seed: u64, count: u32, report: &mut R) -> u8
     ensures leaves { summary.LoadLeaves seed count result
         (spec.seen_of (R.held report.old) (R.fault_count report.old)) (spec.seen_of (R.held report.new) (R.fault_count report.new)) }

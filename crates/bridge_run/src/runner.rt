@@ -38,10 +38,11 @@ use wire_base::MAX_CAPTURED;
 /// report, and returns the status:
 ///
 /// - 0 if the source was read to its end, or the load was judged;
-/// - 2 if the words are refused;
-/// - 3 for a fault of the head or of a block, a captured length above 262,144 octets, a record or
-///   block after 2^32 - 1 others, a record after 2^31 - 1 others if both sides are protected, or a
-///   classic file with a head that is accepted, if the words name the interface on the inside;
+/// - 2 for invalid arguments;
+/// - 3 for a fault of the head or of a block, a captured length above 262,144 octets, or a record
+///   or block after 2^32 - 1 others. Also for a record after 2^31 - 1 others if both sides are
+///   protected, or a classic file with a head that is accepted, if the words name the interface on
+///   the inside;
 /// - 4 for a capture that ends inside its head, a record or a block;
 /// - 5, 6 and 7 for a fault of the source, of the capture sink and of the report sink;
 /// - 8 if memory could not be allocated for the words or at opening.
@@ -49,6 +50,10 @@ use wire_base::MAX_CAPTURED;
 /// The words do not contain the program's own name. Nothing is read before they are accepted, a
 /// fault stops the run, and what was written before it stays. A load touches neither the source nor
 /// the capture; its statuses are 0, 7 and 8.
+///
+/// The report's last line at 3 to 6 and 8 is `stop KIND O`. O is the offset in octets of the head,
+/// record or block, or after the newest record if a flush between records or at the
+/// end fails.
 pub fn run<S: Source, K: Sink, R: Sink>(
     alloc: Global,
     words: &[String],
@@ -69,7 +74,7 @@ pub fn run<S: Source, K: Sink, R: Sink>(
         let now = moment_of (S.left source.new) (S.fault_count source.new) (K.held capture.new) (K.fault_count capture.new) (R.held report.new) (R.fault_count report.new) in
         result ≡ 0 → moments.NoneRose before now }
 
-    // The status is 2 for refused words, and 8 if memory could not be allocated; then only the
+    // The status is 2 for invalid arguments, and 8 if memory could not be allocated; then only the
     // report is touched, by one line.
     ensures refused { result ≡ 2 → spec.Refused (map string_bytes words.now)
         (R.held report.old) (R.held report.new) (R.fault_count report.old) (R.fault_count report.new) }
@@ -132,9 +137,9 @@ pub fn run<S: Source, K: Sink, R: Sink>(
 }
 
 /// Normalizes a capture under these settings, writes the report, and returns the status as `run`
-/// does; 2 is not returned. Each number of the settings is in the range of its option. If both sides
-/// are protected, the settings have no exchanged sides, no interface on the inside and no MTU. The memory of the run is allocated first: the buffer of one
-/// record and the relay.
+/// does; 2 is not returned. Each number of the settings is in the range of its option. If both
+/// sides are protected, the settings have no exchanged sides, no interface on the inside and no
+/// MTU. The memory of the run is allocated first: the buffer of one record and the relay.
 pub fn run_capture<S: Source, K: Sink, R: Sink>(
     alloc: Global,
     settings: &Settings,
@@ -187,8 +192,8 @@ pub fn run_capture<S: Source, K: Sink, R: Sink>(
     stop.status()
 }
 
-// Allocates the memory of a run, and normalizes the capture in it. The only function that frees
-// this memory.
+// Allocates the memory of a run, and normalizes the capture in it. No other function frees this
+// memory.
 fn normalize_in_room<S: Source, K: Sink, R: Sink>(
     alloc: Global,
     settings: &Settings,

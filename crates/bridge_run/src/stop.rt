@@ -122,7 +122,7 @@ pub fn tell_memory<R: Sink>(report: &mut R)
     tell_kind(StopKind::Memory, 0, report);
 }
 
-/// Reports that the words are refused, by the number of their fault.
+/// Reports invalid arguments, by the number of their fault.
 pub fn tell_words<R: Sink>(fault: &WordFault, report: &mut R)
     ensures told { spec.Told (R.held report.old) (R.held report.new)
         (R.fault_count report.old) (R.fault_count report.new) (spec.words_line (number_of fault.now)) }

@@ -1,14 +1,12 @@
-//! What the three programs do alike: how they begin, and the line on standard error of one that
-//! ends without an answer.
+//! What the three programs have in common: how they begin, and the line on standard error of one
+//! that ends without an answer.
 //!
-//! Proved of `error_line`: its octets are one line without control characters. What the line says is
-//! tested.
+//! Proved of `error_line`: its octets are one line without control characters. What the line says
+//! is tested.
 #![tactic(auto)]
 
 mod line;
 mod program;
-#[cfg(test)]
-mod tests;
 mod why;
 
 pub use line::{error_line, last_line, tell};

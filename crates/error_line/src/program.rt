@@ -1,5 +1,6 @@
 //! How a program begins, and how it ends without memory.
 use crate::{Why, tell};
+use std::alloc::{AllocError, Global};
 use std::process::ExitCode;
 use std::{env, io};
 
@@ -16,10 +17,14 @@ pub struct Program {
 }
 
 impl Program {
-    /// Returns the words behind the program's name. A command line with a word that is not UTF-8 counts
-    /// as one without words. The error is the status of a program that is over: its only word asked
-    /// for a text, which was printed (0, or 7 if that failed), or memory could not be allocated (8).
+    /// Returns the words after the program's name. A command line with a word that is not UTF-8
+    /// counts as one without words. The error is the status of a program that is over: its only
+    /// word asked for a text, which was printed (0, or 7 if that failed), or memory could not be
+    /// allocated (8).
     pub fn words(&self, rt: &HostRuntime) -> Result<Vec<String>, ExitCode> {
+        if reserve_stack(rt.alloc()).is_err() {
+            return Err(self.without_memory(rt));
+        }
         let words = match words_after_name(rt) {
             Ok(words) => words,
             Err(error) if error.kind() == io::ErrorKind::OutOfMemory => {
@@ -33,7 +38,7 @@ impl Program {
         }
     }
 
-    /// Says on both outputs that memory could not be allocated, and returns the status 8.
+    /// Reports on both outputs that memory could not be allocated, and returns the status 8.
     pub fn without_memory(&self, rt: &HostRuntime) -> ExitCode {
         let _ = rt.print(self.memory);
         tell(rt, self.name, &Why::Memory);
@@ -65,6 +70,16 @@ impl Program {
 
 /// The name of standard output on standard error.
 pub const STANDARD_OUTPUT: &str = "standard output";
+
+// Size of the stack that a program may need, in octets.
+const STACK_OCTETS: usize = 196_608;
+
+// Allocates and frees as much as the stack may need. Where the system cannot grow the stack, it
+// ends the program by a signal; where this is refused, the program ends with 8.
+fn reserve_stack(alloc: Global) -> Result<(), AllocError> {
+    let _room: Vec<u8> = Vec::with_capacity(alloc, STACK_OCTETS)?;
+    Ok(())
+}
 
 fn words_after_name(rt: &HostRuntime) -> io::Result<Vec<String>> {
     let mut words = env::args(rt)?;

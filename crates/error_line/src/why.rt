@@ -7,7 +7,7 @@ use std::io;
 /// Why a program ends without an answer.
 #[derive(Clone, Copy)]
 pub enum Why<'a> {
-    /// The words are refused. `stop` is the last line of standard output.
+    /// The arguments are invalid. `stop` is the last line of standard output.
     Words { stop: &'a str },
     /// The file is malformed. `stop` is the last line of standard output.
     Malformed { file: &'a str, stop: &'a str },
@@ -17,7 +17,7 @@ pub enum Why<'a> {
     Memory,
 }
 
-/// Returns that the last call on this file failed, if its error is there.
+/// Returns that the last call on this file failed, if its error is present.
 pub fn failed<'a>(file: &'a str, error: Option<io::Error>) -> Option<Why<'a>>
     ensures { result ≡ option_map (λ error. Why.Failed file.entry error) error }
 {

@@ -1,39 +1,75 @@
-//! The files of a run. No file is emptied that the run reads, that another run reads or writes, or that takes the report.
-ghost use Rattle.std.specs.Prelude.{IsErr};
+//! The files of a run. No file is emptied that the run reads, that another run reads or writes, or
+//! that takes the report.
+ghost use Rattle.std.specs.Prelude.{IfOk, IsErr};
 
+use crate::PROGRAM;
+use error_line::{Why, tell};
 use norm_settings::Names;
 use std::fs::{File, Metadata, OpenOptions, TryLockError};
+use std::os::fd::AsFd;
 use std::os::unix::fs::{FileTypeExt, MetadataExt};
 use std::{fs, io};
 
 // Linux's name for the file behind standard output, whatever that is.
 const STANDARD_OUTPUT: &str = "/proc/self/fd/1";
 
-/// Opens the file to read and, where that succeeds, the file to write. A regular file is held by an advisory lock as long as it is
-/// open: IN shared with other readers, OUT alone.
-pub fn opened(rt: &HostRuntime, names: &Names) -> (io::Result<File>, io::Result<File>)
-    ensures { IsErr result.0 → IsErr result.1 }
+// Linux's error of a descriptor that is not open.
+const EBADF: i32 = 9;
+
+/// The file to read and the file to write, or why there is none.
+pub type Opened = (io::Result<File>, io::Result<File>);
+
+/// Opens the file to read and, where that succeeds, the file to write. A regular file is held by an
+/// advisory lock as long as it is open: IN shared with other readers, OUT alone. Fails if the
+/// report would be written to IN, or if the file behind standard output cannot be determined.
+pub fn opened<'a>(rt: &HostRuntime, names: &'a Names) -> Result<Opened, Why<'a>>
+    ensures { IfOk result (λ opened. IsErr opened.0 → IsErr opened.1) }
 {
     // Must be first: if standard output is closed, the next file that is opened takes its number.
-    let report = fs::metadata(rt, STANDARD_OUTPUT).ok();
-    let input = match read(rt, names.input.as_str()) {
-        Ok(input) => input,
-        Err(error) => return (Err(error), Err(error)),
+    let report = match report_file(rt) {
+        Ok(report) => report,
+        Err(error) => return Err(of_file(STANDARD_OUTPUT, error)),
     };
-    if is_regular(&input) {
-        let _ = input.try_lock_shared();
+    let (input, is_report) = match read(rt, names.input.as_str(), &report) {
+        Ok(found) => found,
+        Err(error) => return Ok((Err(error), Err(error))),
+    };
+    if is_report {
+        let error = io::Error::other("where the report goes");
+        return Err(of_file(names.input.as_str(), error));
+    }
+    if is_regular(&input) && is_written(&input) {
+        let error = io::Error::other("another run is writing it");
+        tell(rt, PROGRAM.name, &of_file(names.input.as_str(), error));
     }
     let output = written(rt, names.output.as_str(), &input, &report);
-    (Ok(input), output)
+    Ok((Ok(input), output))
 }
 
-// Opens the file to read.
-fn read(rt: &HostRuntime, name: &str) -> io::Result<File> {
+// Returns that a call on this file failed.
+fn of_file(file: &str, error: io::Error) -> Why<'_> {
+    Why::Failed { file, error }
+}
+
+// Returns the file behind standard output, if that is open.
+fn report_file(rt: &HostRuntime) -> io::Result<Option<Metadata>> {
+    match rt.stdout().as_fd().try_clone_to_owned() {
+        Ok(_) => Ok(Some(fs::metadata(rt, STANDARD_OUTPUT)?)),
+        Err(error) if error.raw_os_error() == Some(EBADF) => Ok(None),
+        Err(error) => Err(error),
+    }
+}
+
+// Opens the file to read, and returns whether it takes the report.
+fn read(rt: &HostRuntime, name: &str, report: &Option<Metadata>) -> io::Result<(File, bool)> {
     let input = File::open(rt, name)?;
-    behind_standard(&input)
+    let input = behind_standard(&input)?;
+    let is_report = takes_report(&input, report)?;
+    Ok((input, is_report))
 }
 
-// Opens the file to write, and empties it once it is held alone; a device or a pipe is taken as it is.
+// Opens the file to write, and empties it once it is held alone; a device or a pipe is taken as it
+// is.
 fn written(
     rt: &HostRuntime,
     name: &str,
@@ -58,24 +94,31 @@ fn written(
     Ok(output)
 }
 
-// Duplicates the open file behind the numbers of the standard ones: if standard output is closed, the report must not go into a
-// file that took its number.
+// Duplicates the open file to a descriptor above the standard ones: if standard output is closed,
+// the report must not go into a file that took its number.
 fn behind_standard(file: &File) -> io::Result<File> {
     file.try_clone()
 }
 
-// Holds the file alone from here on, and returns false where someone else holds it. Where the file system has no locks, nobody does.
+// Locks the file for this program alone, and returns false if another one holds it. If the file
+// system has no locks, none does.
 fn hold(file: &File) -> bool {
     !matches!(file.try_lock(), Err(TryLockError::WouldBlock))
 }
 
-// Whether the two are one file by two names.
+// Locks the file together with other readers, and returns true if another program holds it alone.
+fn is_written(file: &File) -> bool {
+    matches!(file.try_lock_shared(), Err(TryLockError::WouldBlock))
+}
+
+// Returns whether the two are one file by two names.
 fn are_one(one: &File, other: &File) -> io::Result<bool> {
     Ok(is_same_node(&one.metadata()?, &other.metadata()?))
 }
 
-// Whether the file is the one that standard output writes to, where the report would overwrite the capture or be between its
-// records. A terminal and `/dev/null` are character devices, which keep nothing that could be overwritten.
+// Returns whether the file is the one that standard output writes to, where the report would
+// overwrite the capture or be between its records. A terminal and `/dev/null` are character
+// devices, which keep nothing that could be overwritten.
 fn takes_report(file: &File, report: &Option<Metadata>) -> io::Result<bool> {
     let Some(report) = report else {
         return Ok(false);
@@ -105,7 +148,7 @@ mod tests {
     use std::test::Fail;
     use std::{env, fs, process};
 
-    // The capture of the stored run: one UDP message that passes. Norm writes a head as this one is.
+    // The capture of the stored run: one UDP message that passes. norm writes the same head.
     const SAMPLE: [u8; 70] = [
         0xd4, 0xc3, 0xb2, 0xa1, 2, 0, 4, 0, 0, 0, 0, 0, 0, 0, 0, 0, 0, 0, 4, 0, 101, 0, 0, 0, 0, 0,
         0, 0, 0, 0, 0, 0, 30, 0, 0, 0, 30, 0, 0, 0, 0x45, 0, 0, 30, 0, 1, 0, 0, 64, 17, 0x46, 0x93,
@@ -134,7 +177,9 @@ mod tests {
     fn normalized(rt: &HostRuntime, names: &Names) -> Result<u8, Fail> {
         let words = words_of(rt.alloc(), &["run", "in", "out", "10.0.0.0/8"])?;
         let mut report = MemSink::new(rt.alloc(), 100, Vec::new(rt.alloc()))?;
-        let (input, output) = opened(rt, names);
+        let Ok((input, output)) = opened(rt, names) else {
+            return Ok(7);
+        };
         Ok(run(
             rt.alloc(),
             &words,

@@ -11,19 +11,10 @@ usage: norm run [OPTION..] IN OUT PREFIX..
        norm load SEED COUNT
        norm --help | -h | --version
 
-  IN      the capture to read: classic pcap or pcapng, of Ethernet or raw IP; its
-          records are in the order in which the packets crossed the link
-  OUT     the normalized capture to write, as classic pcap; norm truncates a file
-          that is there before it judges IN, and refuses (6) IN under another name,
-          the file of another run, and the file or pipe that the report goes to
-  PREFIX  trusted addresses, as 10.0.0.0/8: four numbers, a slash, a length;
-          from 1 to 16 prefixes
-  SEED    0 to 18446744073709551615: the number that a load is made from
-  COUNT   1 to 1000000: how many records it has
+  IN, OUT  the capture to read (pcap or pcapng, Ethernet or raw IP), and the one to write
+  PREFIX   trusted addresses, as 10.0.0.0/8; from 1 to 16 prefixes
 
-Options go before IN, each at most once, as --name=N or --name N, where N is
-1 to 20 decimal digits, and NAME 1 to 64 octets that do not begin with a dash:
-
+Options go before IN, each at most once, as --name=N or --name N:
   --hops N        0 to 254, default 30: routers behind the bridge
   --flows N       1 to 65536, default 4096: connections followed at once
   --cells N       1 to 262144, default 65536: cells of 256 octets for streams
@@ -38,29 +29,7 @@ Options go before IN, each at most once, as --name=N or --name N, where N is
   --offload       default off: rewrite wrong checksums of outbound packets
   --both          default off: protect both sides: a second engine reads what the first writes
 
-With --inside a PREFIX does not give the side, but M_QUOTE still asks it: name the
-real hosts. A packet that the capturing machine forwards must be in IN once:
-capture with -f inbound after each -i of dumpcap, and order the records with
-reordercap.
-
-The report goes to standard output: a line for each record, with its side, the
-verdict, the number of frames written and the rules that hold, and a last line
-that says how the run ended; norm-report(5) explains each word. A report that
-ends neither with an end line nor with a stop line, each with its line feed, is
-that of a run that was killed, or that could not write it: discard OUT. O is the
-offset of the first octet of the head, record or block at which the run stopped.
-With --both, which goes neither with --inside nor with --mtu, a line with a slash
-follows for each frame of the first engine, and a run reads at most 2147483647
-records and takes twice as much memory.
-
-A load reads and writes no file: its records are made from SEED, and judged with
-the standard options and the prefix 10.0.0.0/8. Its report is printed at its end and
-has the lines load SEED COUNT, records R, packets P and eras E, a line rule NAME N
-for each rule that was named, in the order of first use, and the line end. Its
-statuses are 0, 2, 7 and 8.
-
-Status and last line:
-
+Status and last line of the report, on standard output; O is an offset in IN:
   0  end R P: IN was read to its end; R records were read, P frames written
   2  stop words N: the words are refused; nothing is read or written
   3  stop magic O, stop version O, stop link O: IN is no capture of this kind
@@ -71,10 +40,21 @@ Status and last line:
   6  stop capture O: OUT could not be created or written
   7  none: the report could not be written
   8  stop memory O: memory could not be allocated
+Man pages: norm(1) has refused words and usual mistakes, norm-report(5) the report.
 
-Unless the status is 0, one line on standard error says why.
+  norm run --hops 12 --offload in.pcap out.pcap 10.0.0.0/8 192.168.0.0/16
+  norm load 7 200000
+";
 
-Refused words, in the order in which they are tested, each N with an example:
+#[cfg(test)]
+mod tests {
+    use super::*;
+    use norm_settings::{Choice, Kind, read_words};
+    use std::alloc::{AllocError, Global};
+
+    /// The invalid arguments and the usual mistakes of norm(1), with an example for each.
+    const MISTAKES: &str =
+        "Refused words, in the order in which they are tested, each N with an example:
 
   1  another form, or an option unknown, twice or out of range: norm run a
   5  IN and OUT are one word: norm run a a 10.0.0.0/8
@@ -95,18 +75,7 @@ Usual mistakes of which N is 1, each with the word that is wrong:
      b              no prefix follows: norm run a b
      a              run or load is missing before it: norm a b 10.0.0.0/8
      --help         it must be the only word: norm run --help
-
-Examples:
-
-  norm run --hops 12 --offload in.pcap out.pcap 10.0.0.0/8 192.168.0.0/16
-  norm load 7 200000
 ";
-
-#[cfg(test)]
-mod tests {
-    use super::*;
-    use norm_settings::{Choice, Kind, read_words};
-    use std::alloc::{AllocError, Global};
 
     // Returns the text of an option's range and default.
     fn range_of(alloc: Global, kind: &Kind) -> Result<String, AllocError> {
@@ -211,7 +180,7 @@ mod tests {
         }
     }
 
-    // Returns the number of examples, behind `mark` in lines that begin with `front`, or 0 if one of
+    // Returns the number of examples, after `mark` in lines that begin with `front`, or 0 if one of
     // them has another fault.
     fn examples(
         alloc: Global,
@@ -232,11 +201,11 @@ mod tests {
         Ok(count)
     }
 
-    // Each example of refused words is refused by the number before it.
+    // Each example of invalid arguments is refused by the number before it.
     #[test]
     fn examples_are_refused_by_their_numbers(rt: HostRuntime) -> Result<(), AllocError> {
         for (front, number) in [("  1  ", 1), ("  5  ", 5), ("  3  ", 3), ("  2  ", 2)] {
-            let count = examples(rt.alloc(), HELP, front, ": norm ", Some(number))?;
+            let count = examples(rt.alloc(), MISTAKES, front, ": norm ", Some(number))?;
             assert!(rt; count > 0, "{number}");
         }
         Ok(())
@@ -258,8 +227,8 @@ mod tests {
     // Each usual mistake is refused by 1, and its example has the word that is named as wrong.
     #[test]
     fn usual_mistakes_are_refused_by_1(rt: HostRuntime) -> Result<(), AllocError> {
-        assert_eq!(rt; first_other_word(HELP), None);
-        assert!(rt; examples(rt.alloc(), HELP, "     ", ": norm ", Some(1))? >= 10);
+        assert_eq!(rt; first_other_word(MISTAKES), None);
+        assert!(rt; examples(rt.alloc(), MISTAKES, "     ", ": norm ", Some(1))? >= 10);
         Ok(())
     }
 

@@ -50,7 +50,7 @@ reads back order (w ∷ older) rest own fits few =
       back order (length older) w.seconds w.fraction w.octets rest (omega (arith, few)) fits.0.seconds fits.0.fraction fits.0.octets ∙ ap (λ x. Ok (Some (x, rest))) (sym own.0),
     )
 
--- the octets behind the head are those that were written behind it
+-- the octets after the head are those that were written after it
 pub behind_head : (order : Order) (nano : Bool) (link : Link) (xs : List ℕ) → drop 24 (head_octets (record { order = order; nano = nano; link = link }) ++ xs) ≡ xs
 unfolding head_octets
 behind_head Little nano link xs = refl

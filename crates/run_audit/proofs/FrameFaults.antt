@@ -1,4 +1,5 @@
--- The first fault of a frame is that of its segment in its era; frames whose segments are emitted have none.
+-- The first fault of a frame is that of its segment in its era; frames whose segments are emitted
+-- have none.
 use Rattle.std.proofs.Common.{◌≡◌, ◌≢◌, ℕ, ◌-◌, ◌==◌, ◌&&◌, ◌||◌, List, [], ◌∷◌, ◌++◌, length, take, drop, append-nil, eq-eqb, Option, Some, None, is_some, Bool, true, false, refl, sym, ap, ◌∙◌, subst, arith, if◌then◌else◌, nat_eq, map, append_assoc, take_all, length-drop, IsSome, IfOk, Result, Ok, Err}
 use Rattle.std.proofs.lemmas.Bool.{eqb-true, eqb-false, or_parts}
 use Rattle.std.specs.List.{list_any}
@@ -43,7 +44,7 @@ use Rattle.run_audit.proofs.Frames.{none_of}
 abbrev reason_by : (a b c d : Bool) → Option Reason
 reason_by a b c d = if a then Some reasons.Base else if b then Some reasons.Syn else if c then Some reasons.Octet else if d then Some reasons.Fin else None
 
--- this is the first reason that holds of the frame, or none holds
+-- this is the first reason that applies to the frame, or none holds
 abbrev pub FirstOrNone : (hops : ℕ) → List Sent → Frame → Option Reason → Type 0
 FirstOrNone hops older f None = IsFaultless hops older f
 FirstOrNone hops older f (Some reason) = IsFirstReason hops older f reason
@@ -203,7 +204,8 @@ pub record Laws : Type 0 where
   pub places : EmittedOctetsArePlaces
   pub silence : SilenceChangesNothing
 
--- the segments that a packet adds to those of an era: its own, if its entry names the era and it is a written segment
+-- the segments that a packet adds to those of an era: its own, if its entry names the era and it is
+-- a written segment
 abbrev added : (named written inward : Bool) → Option Segment → List Written
 added named written inward o = if named && written then written_as inward o ++ [] else []
 
@@ -301,7 +303,7 @@ module _ (laws : Laws) (hops : ℕ) (m : Marked) (older : List Marked) (certain 
           subst (λ b. Alike (ws era ++ []) (vs era ++ added true (b || is_based (sent (frames_in older)) f.era p) b (Some x))) i
           (beside x (is_based (sent (frames_in older)) f.era p) f.side refl (named e) w s none)
 
-  -- a frame has no fault if none of the tests on a stream holds of it
+  -- a frame has no fault if none of the tests on a stream holds for it
   quiet : ((test : List Written → Written → Bool) → in_stream test (sent (frames_in older)) f ≡ false) → IsFaultless hops (sent (frames_in older)) f
   quiet h = record { read = certain.read; base = h lacks_base; syn = h has_other_syn; octet = h has_other_octet; fin = h has_other_fin }
 

@@ -1,4 +1,5 @@
--- From frame to frame of a capture: the owner of each, the eras named so far, and how an audit ends.
+-- From frame to frame of a capture: the owner of each, the eras named so far, and how an audit
+-- ends.
 use Rattle.std.proofs.Common.{◌≡◌, ℕ, zero, suc, ◌+◌, ◌<◌, ◌≤◌, ◌^◌, List, [], ◌∷◌, length, drop, Option, Some, None, refl, sym, ap, ap₂, subst, ◌∙◌, arith, ◌==◌, ◌||◌, ◌++◌, map, drop-cons, get_or, add-one, Bool, true, false, nat_eq, if◌then◌else◌, option_to_list, eq-eqb, IfSome, IsSome, slice_get, is_some, replicate}
 use Rattle.std.specs.List.{AllByRecursion, list_any, flat_map}
 use Rattle.std.proofs.lemmas.Option.{slice_get_past}
@@ -29,13 +30,15 @@ use Rattle.run_audit.specs.Named.{noted, all_noted, numbers_of, named_in, eras_n
 
 -- How an audit proceeds from frame to frame, and how it ends.
 
--- If a source has known octets, these records, the newest first, were taken from those after the head.
+-- If a source has known octets, these records, the newest first, were taken from those after the
+-- head.
 abbrev pub Took : Order → (old new : Option (List ℕ)) → List Packet → Type 0
 Took order None new packets = Unit {0}
 Took order (Some all) None packets = ⊥
 Took order (Some all) (Some rest) packets = ReadsTo order all packets rest
 
--- The frames that were judged have no fault: the states of the eras, the entries that are left, and the position of the reader.
+-- The frames that were judged have no fault: the states of the eras, the entries that are left, and
+-- the position of the reader.
 pub record GoesOn (hops : ℕ) (head : Head) (entries : List PlainEntry) (old now : Option (List ℕ)) (eras : Eras) (left : Owners) (reader : Reading) (frames : ℕ) : Type 0 where
   pub packets : List Packet
   pub took : Took head.order old now packets

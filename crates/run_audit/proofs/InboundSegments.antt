@@ -1,4 +1,5 @@
--- A ledger with one more inbound segment: its base, octets and FIN, and the first reason that holds of the segment.
+-- A ledger with one more inbound segment: its base, octets and FIN, and the first reason that
+-- applies to the segment.
 use Rattle.std.proofs.Common.{◌≡◌, ℕ, ◌+◌, ◌%◌, ◌^◌, ◌==◌, ◌&&◌, ◌||◌, not, List, [], ◌∷◌, ◌++◌, length, Option, Some, None, Bool, true, false, refl, sym, ap, ap₂, ◌∙◌, subst, arith, if◌then◌else◌, nat_lt, is_none, nat_le, ◌-◌, slice_get, int_eq, pos, ◌+ℤ◌, IfOk, Result, Ok, Err, int_le, int_lt, ℤ, negsuc, ◌-ℤ◌}
 use Rattle.std.specs.Option.{option_or}
 use Rattle.std.proofs.lemmas.Bool.{or_parts, leb-true, leb-false}
@@ -93,7 +94,8 @@ stands_by new ws w base based read new_base = record {
   tells = λ other only. let same : base ≡ other = only base based in subst (λ b. Tells b new (ws ++ w ∷ [])) same read;
 }
 
--- the verdict on the octets and the FIN is the verdict on the segment, if the segment has no fault before
+-- the verdict on the octets and the FIN is the verdict on the segment, if the segment has no fault
+-- before
 pub whole_verdict : (l mid new : Ledger) (s : Inward) (ws : List Written) (w : Written) (base : ℕ) (verdict : Option Reason) → StandsFor l ws → IsInward s w → mid ≡ settled l (tcp.has_syn s.flags.0) ((s.seq + 1) % 2 ^ 32) → mid.base ≡ Some base → (tcp.has_syn s.flags.0 && not (((s.seq + 1) % 2 ^ 32) == base)) ≡ false → IsVerdictAt base mid new ws w verdict → new.base ≡ mid.base → IsVerdict new ws w verdict
 whole_verdict l mid new s ws w base verdict st is mid_is mid_base other at same_base = by verdict (at read based)
   where
@@ -222,7 +224,7 @@ strays f g end place z (octet ∷ octets) same is =
     (ap (is_past (some_offset end)) is ∙ past end place))
     (strays f g end (place + 1) (z +ℤ pos 1) octets same (ap (λ n. n +ℤ pos 1) is ∙ sym (raised_on place 1)))
 
--- a segment that went inwards, with the offset of its first octet and the offset behind its last one
+-- a segment that went inwards, with the offset of its first octet and the offset after its last one
 pub record Came (base : ℕ) (l : Ledger) (s : Inward) (w : Written) (place behind : Offset) : Type 0 where
   pub is : IsInward s w
   pub placed : receiver.offset_in place.raised ≡ off base l.acked s.seq
@@ -274,7 +276,7 @@ octets_kept base l new s ws w place behind came read kept raised =
     ∙ ap₂ option_or (read.octets_are raised) (sym (octet_brought base l s ws w place behind came read raised))
     ∙ sym (octet_push base ws w (receiver.offset_in raised))
 
--- the offset behind the last octet
+-- the offset after the last octet
 top_moved : (t : Option Offset) (n : ℕ) (behind : Offset) (z : ℤ) → z ≡ offset_in behind → some_offset (top_with t n behind) ≡ greater (some_offset t) (if nat_lt 0 n then Some z else None)
 top_moved t n behind z at = by (nat_lt 0 n) t
   where

@@ -1,4 +1,5 @@
--- Octets kept of an era, run by run: which ones differ from those before, and that each is below the offset behind the last.
+-- Octets kept of an era, run by run: which ones differ from those before, and that each is below
+-- the offset after the last.
 use Rattle.std.proofs.Common.{◌≡◌, ℕ, ◌+◌, ◌≤◌, ◌&&◌, List, [], ◌∷◌, ◌++◌, length, Option, Some, None, Bool, true, false, refl, sym, ap, ◌∙◌, subst, arith, inl, inr, zero, suc, ◌-◌, ◌/◌, ◌%◌, ◌==◌, ◌||◌, nat_le, not, ◌<◌, drop, drop-cons, get_or, add-one, ap₂, slice_get, if◌then◌else◌, ℤ, pos, negsuc, ◌+ℤ◌, ◌-ℤ◌, ◌<ℤ◌, ◌≤ℤ◌, max, nat_lt}
 use Rattle.std.specs.Int.{int_max}
 use Rattle.std.specs.Option.{option_or}
@@ -19,7 +20,7 @@ use Rattle.run_audit.specs.Kept.{AreKeptWith, brought, is_at_end, block_at, kept
 use Rattle.run_audit.specs.declared.octets.Octets.{Octets}
 use Rattle.run_audit.specs.declared.offset.Offset.{Offset}
 
--- The offset behind the last octet, with one more segment; all octets are below it.
+-- The offset after the last octet, with one more segment; all octets are below it.
 
 pub greater_none : (o : Option ℤ) → greater o None ≡ o
 greater_none None = refl
@@ -58,7 +59,7 @@ bare_end base a w bare =
     ap (λ (os : List ℕ). if w.inward && nat_lt 0 (length os) then Some (off base a w.seq +ℤ pos (length os)) else None) bare
     ∙ no_octets w.inward (off base a w.seq +ℤ pos 0)
 
--- an offset is below an optional one, which is there
+-- an offset is below an optional one, which is present
 abbrev IsBefore : ℤ → Option ℤ → Type 0
 IsBefore o None = ⊥
 IsBefore o (Some end) = o <ℤ end
@@ -164,7 +165,7 @@ stray_same f g p q (x ∷ xs) same =
     (ap (λ (o : Option ℕ). is_other o x) (same p q (omega arith) (omega arith) (omega arith)))
     (stray_same f g (p + 1) (q + 1) xs (λ m n low high e. same m n (omega (arith, low)) (omega (arith, high)) (omega (arith, e))))
 
--- an octet of two lists, one behind the other, strays if one of either does
+-- an octet of two lists, one after the other, strays if one of either does
 or_assoc : (a b c : Bool) → (a || (b || c)) ≡ ((a || b) || c)
 or_assoc true b c = refl
 or_assoc false b c = refl
@@ -182,7 +183,7 @@ stray_append f place (x ∷ xs) ys =
 pub stray_front : (f : ℕ → Option ℕ) (place : ℕ) (xs ys : List ℕ) → some_stray f None place xs ≡ true → some_stray f None place (xs ++ ys) ≡ true
 stray_front f place xs ys h = stray_append f place xs ys ∙ ap (λ (b : Bool). b || some_stray f None (place + length xs) ys) h
 
--- what a list brings from its first offset on, before it, and behind it
+-- what a list brings from its first offset on, before it, and after it
 brought_at : (place raised : ℕ) (octets : List ℕ) → place ≤ raised → brought place octets raised ≡ slice_get octets (raised - place)
 brought_at place raised octets h = ap (λ (b : Bool). if b then slice_get octets (raised - place) else None) (le-leb place raised h)
 
@@ -206,7 +207,7 @@ or_twice : (a b c : Option ℕ) → option_or (option_or a b) c ≡ option_or a 
 or_twice None b c = refl
 or_twice (Some x) b c = refl
 
--- two lists, one behind the other, bring the octets of both
+-- two lists, one after the other, bring the octets of both
 get_append : (xs ys : List ℕ) (k : ℕ) → slice_get (xs ++ ys) k ≡ option_or (slice_get xs k) (brought (length xs) ys k)
 get_append [] ys k = ap₂ (λ (b : Bool) (n : ℕ). if b then slice_get ys n else None) (sym (le-leb 0 k (omega arith))) (omega arith)
 get_append (x ∷ xs) ys zero = refl
@@ -229,7 +230,7 @@ brought_append place xs ys raised = by (nat_le place raised) refl
 kept_behind : (f : ℕ → Option ℕ) (place : ℕ) (octets : List ℕ) (raised : ℕ) → place + length octets ≤ raised → kept_with f place octets raised ≡ f raised
 kept_behind f place octets raised h = ap (option_or (f raised)) (brought_behind place raised octets h) ∙ or_none (f raised)
 
--- octets that do not stray are added: whether those behind them stray stays the same
+-- octets that do not stray are added: whether those after them stray stays the same
 pub stray_on : (f g : ℕ → Option ℕ) (place : ℕ) (xs ys : List ℕ) → ((raised : ℕ) → g raised ≡ kept_with f place xs raised) → some_stray f None place xs ≡ false → some_stray g None (place + length xs) ys ≡ some_stray f None place (xs ++ ys)
 stray_on f g place xs ys new none =
     stray_same f g (place + length xs) (place + length xs) ys
@@ -237,7 +238,7 @@ stray_on f g place xs ys new none =
     let same : m ≡ n = omega (arith, e) in new n ∙ kept_behind f place xs n (omega (arith, low, same)) ∙ ap f (sym same))
     ∙ sym (stray_append f place xs ys ∙ ap (λ (b : Bool). b || some_stray f None (place + length xs) ys) none)
 
--- octets are added, and those behind them: all of them are added
+-- octets are added, and those after them: all of them are added
 pub kept_on : (f g : ℕ → Option ℕ) (place : ℕ) (xs ys : List ℕ) → ((raised : ℕ) → g raised ≡ kept_with f place xs raised) → (raised : ℕ) → kept_with g (place + length xs) ys raised ≡ kept_with f place (xs ++ ys) raised
 kept_on f g place xs ys new raised =
     ap (λ (o : Option ℕ). option_or o (brought (place + length xs) ys raised)) (new raised)
@@ -311,7 +312,8 @@ put_kept f g place index octets h new same at =
     ∙ kept_on f g (place + index) (get_or octets index 0 ∷ []) (drop (index + 1) octets) (λ n. new n ∙ one_kept f (place + index) (get_or octets index 0) n same) at
     ∙ ap (λ xs. kept_with f (place + index) xs at) (sym (unrolled octets index h))
 
--- octets that begin at `place` are put into their block: it had the octets `f` and has the octets `g`, and other blocks stay
+-- octets that begin at `place` are put into their block: it had the octets `f` and has the octets
+-- `g`, and other blocks stay
 pub record IsPut (a n : Octets) (f g : ℕ → Option ℕ) (place : ℕ) (octets : List ℕ) : Type 0 where
   pub fits : place % 256 + length octets ≤ 256
   pub had : (at : ℕ) → octet_in_some (block_at a (place / 256)) at ≡ f at

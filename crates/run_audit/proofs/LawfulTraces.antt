@@ -1,4 +1,5 @@
--- Each frame of a lawful trace belongs to the entry of its own item, and has no fault; so the audit says yes.
+-- Each frame of a lawful trace belongs to the entry of its own item, and has no fault; so the audit
+-- answers yes.
 use Rattle.std.proofs.Common.{◌≡◌, ℕ, zero, suc, ◌≤◌, ◌==◌, ◌&&◌, not, cond, Bool, true, false, List, [], ◌∷◌, ◌++◌, length, map, reverse, replicate, Option, Some, None, refl, sym, ap, ap₂, ◌∙◌, subst, arith, append-nil, append_assoc, length-append, eq-eqb, slice_get, if◌then◌else◌, All, IsSome, is_ok}
 use Rattle.std.specs.List.{AllByRecursion}
 use Rattle.std.proofs.lemmas.Bool.Decides.{nat_tests}

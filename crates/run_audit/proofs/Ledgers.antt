@@ -1,4 +1,5 @@
--- A ledger with one more outbound segment: the base that it fixes, and what it acknowledges; no number of it overflows.
+-- A ledger with one more outbound segment: the base that it fixes, and what it acknowledges; no
+-- number of it overflows.
 use Rattle.std.proofs.Common.{◌≡◌, ℕ, ◌+◌, ◌%◌, ◌^◌, ◌&&◌, not, List, [], ◌∷◌, ◌++◌, length, Option, Some, None, is_some, Bool, true, false, refl, sym, ap, ap₂, ◌∙◌, subst, if◌then◌else◌, ◌||◌, append-nil, ◌*◌, ◌<◌, ◌≤◌, length-append, arith, nat_eq, ℤ, pos, ◌+ℤ◌, ◌-ℤ◌, max}
 use Rattle.std.specs.Option.{option_or}
 use Rattle.std.proofs.Math.Nat.{max-zero}

@@ -1,4 +1,5 @@
--- At most one answer holds of words, a capture and a report; octets are the text of one report, or have one first fault.
+-- At most one answer applies to words, a capture and a report; octets are the text of one report,
+-- or have one first fault.
 use Rattle.std.proofs.Common.{◌≡◌, ◌⊎◌, ℕ, ◌+◌, List, [], ◌∷◌, ◌++◌, length, map, Err, refl, sym, ap, ◌∙◌, subst, arith, inl, inr, ⊎_elim, Option, Some, None, IfSome, IsSome}
 use Rattle.rule_book.specs.Entries.{PlainEntry}
 use Rattle.rule_book.specs.Reports.{IsVersion, PlainReport, HasFault, IsReport, lines, text_of}
@@ -102,7 +103,7 @@ unfinished_one octets line other a b = by a b
         let same = text_one s.report t.report s.is t.is (sym s.text ∙ t.text) in
         s.line_is ∙ ap (λ (r : PlainReport). length r.entries + 2) same ∙ sym t.line_is
 
--- At most one answer holds of words, a capture and a report.
+-- At most one answer applies to words, a capture and a report.
 
 -- the flaw of the code for a flaw of the definitions
 flaw_from : found.Flaw → Flaw
@@ -198,7 +199,7 @@ some_of : (o : Option (List ℕ)) → IsSome o → (x : List ℕ) × (o ≡ Some
 some_of None h = absurd (cc h)
 some_of (Some x) h = (x, refl)
 
--- no other answer holds of refused words
+-- no other answer applies to invalid arguments
 words_alone : (words : List (List ℕ)) (capture report : Seen) (b : Answer) → IsExact b → asked words ≡ None → Says words capture report b → answers.Words ≡ b
 words_alone words capture report (answers.Yes eras frames) exact s t = absurd (refused words t.0 s t.1)
 words_alone words capture report (answers.No number reason) exact s t = absurd (refused words t.0 s t.1)
@@ -212,7 +213,7 @@ words_alone words capture report (answers.Report line) exact s t = absurd (refus
 not_both : (left : Option (List ℕ)) (r : List ℕ) (es : List PlainEntry) (line : ℕ) → left ≡ Some r → IfSome left (λ x. IsFinished x es) → IfSome left (λ x. IsUnfinished x line) → ⊥
 not_both left r es line e fin un = finished_no_other r es line (at (λ x. IsFinished x es) left r e fin) (at (λ x. IsUnfinished x line) left r e un)
 
--- no other answer holds of a report that is not that of a finished run
+-- no other answer applies to a report that is not that of a finished run
 report_alone : (words : List (List ℕ)) (capture report : Seen) (r : List ℕ) (line : ℕ) (b : Answer) → report.left ≡ Some r → IsExact b
     → Says words capture report (answers.Report line) → Says words capture report b → answers.Report line ≡ b
 report_alone words capture report r line (answers.Yes eras frames) f exact s t = absurd (not_both report.left r t.2.entries line f t.2.finished s.2)
@@ -224,7 +225,7 @@ report_alone words capture report r line answers.Memory f exact s t = absurd exa
 report_alone words capture report r line (answers.Report other) f exact s t =
     ap answers.Report (unfinished_one r line other (at (λ x. IsUnfinished x line) report.left r f s.2) (at (λ x. IsUnfinished x other) report.left r f t.2))
 
--- no other answer holds beside one about the frames
+-- if an answer about the frames holds, no other does
 frames_alone : (words : List (List ℕ)) (capture report : Seen) (a b : Answer) → IsSome report.left × IsSome capture.left → IsOfFrames a → IsExact a
     → IsExact b → Says words capture report a → Says words capture report b → a ≡ b
 frames_alone words capture report a b heard of_frames exact other s t = by b other t

@@ -1,4 +1,5 @@
--- By the entries of a report an audit finds one outcome in a capture: all frames sound, or one first fault, or one first flaw.
+-- By the entries of a report an audit finds one outcome in a capture: all frames sound, or one
+-- first fault, or one first flaw.
 use Rattle.std.proofs.Common.{◌≡◌, ◌⊎◌, ℕ, ◌+◌, ◌<◌, ◌≤◌, List, [], ◌∷◌, length, drop, Option, Some, None, Ok, Err, refl, sym, ap, ap₂, ◌∙◌, subst, arith, inl, inr, ⊎_elim, slice_get, option_map}
 use Rattle.std.proofs.lemmas.Bool.{cases_order}
 use Rattle.std.proofs.lemmas.Option.{slice_get_past, slice_get_cases}
@@ -18,7 +19,7 @@ use Rattle.run_audit.specs.FirstFault.{AreFaultless, FailsNext}
 use Rattle.run_audit.specs.Frames.{Frame, frame_of, owners, owned, sent}
 use Rattle.run_audit.proofs.Frames.{frames_long, owner_at, owned_more}
 
--- so many sound frames, a fault with the number of its frame, or a flaw with its offset
+-- this number of sound frames, a fault with the number of its frame, or a flaw with its offset
 pub data Outcome : Type 0 where
   all_sound : (frames : ℕ) → Outcome
   first_fault : (number : ℕ) (reason : Reason) → Outcome
@@ -67,7 +68,7 @@ none_holds hops older f reasons.Octet h right = absurd (cc (h, right.octet))
 none_holds hops older f reasons.Fin h right = absurd (cc (h, right.fin))
 
 module _ (hops : ℕ) (head : Head) (entries : List PlainEntry) (all : List ℕ) where
-  -- the octets behind some frames, each of which belongs to an entry and has no fault
+  -- the octets after some frames, each of which belongs to an entry and has no fault
   record Behind (packets : List Packet) (left : List ℕ) : Type 0 where
     reads : ReadsTo head.order all packets left
     each_owned : length packets ≤ length (owners entries)
@@ -111,7 +112,7 @@ module _ (hops : ℕ) (head : Head) (entries : List PlainEntry) (all : List ℕ)
       by (inr (inl fewer)) go = go older fewer
       by (inr (inr more)) go = absurd (omega (arith, less, more))
 
-  -- such frames, behind which this is found
+  -- such frames, after which this is found
   abbrev Fails : List Packet → (next : Option (Packet × List ℕ)) → (owner : Option PlainEntry) → Reason → Type 0
   Fails packets next owner reason =
       FailsNext hops head.link (sent (owned head.link (owners entries) (frames_of packets))) (option_map (λ (n : Packet × List ℕ). n.0.octets) next) owner reason
@@ -240,7 +241,7 @@ HasOutcome hops entries capture (all_sound frames) = IsSound hops entries captur
 HasOutcome hops entries capture (first_fault number reason) = IsFaulty hops entries capture number reason
 HasOutcome hops entries capture (first_flaw what offset) = IsFlawed hops entries capture what offset
 
--- its head is refused, or this is found behind it
+-- its head is refused, or this is found after it
 abbrev Begins : (hops : ℕ) → List PlainEntry → (capture : List ℕ) → Outcome → Type 0
 Begins hops entries capture outcome =
     ((what : found.Flaw) × (head_of capture ≡ Err what) × (outcome ≡ first_flaw what 0))

@@ -1,4 +1,5 @@
--- The numbers in the entries of a lawful trace are in the ranges of a report, if frames and records are fewer than 2^32.
+-- The numbers in the entries of a lawful trace are in the ranges of a report, if frames and records
+-- are fewer than 2^32.
 use Rattle.std.proofs.Common.{◌≡◌, ℕ, ◌+◌, ◌^◌, ◌<◌, ◌≤◌, ◌==◌, ◌&&◌, ◌||◌, not, cond, Bool, true, false, List, [], ◌∷◌, ◌++◌, length, map, take, find, reverse, filter, Option, Some, None, refl, sym, subst, arith, append-nil, length-append, if◌then◌else◌, IfSome, option_map, is_some, nat_lt}
 use Rattle.std.specs.List.{AllByRecursion}
 use Rattle.std.specs.Option.{option_or}
@@ -40,7 +41,8 @@ use Rattle.norm_engine.proofs.ItemFrames.{none_before}
 use Rattle.run_audit.specs.Lawful.{frames_written}
 use Rattle.run_audit.proofs.Ledgers.{acked_small}
 
--- an era has at most as many segments as there are frames, and at most as many eras begin as there are records
+-- an era has at most as many segments as there are frames, and at most as many eras begin as there
+-- are records
 
 frames_more : (item : Item) (older : List Item) → length (frames_written (item ∷ older)) ≡ length (frames_written older) + length item.frames
 frames_more item older =
@@ -128,7 +130,7 @@ head_given : (given : ℕ) (xs : List Alive) → AllByRecursion (λ a. a.number 
 head_given given [] all = tt
 head_given given (x ∷ xs) all = all.0
 
--- the bounds of the calls none_before a record
+-- the bounds of the calls before a record
 record Before (given : ℕ) (cs : List Call) : Type 0 where
   numbers : AllByRecursion (λ a. a.number ≤ given) (eras cs)
   begun : begun_in cs ≤ given

@@ -1,4 +1,5 @@
--- Frames without a fault describe one stream in each era, so all receivers agree and read parts of it, and a monitor misses nothing.
+-- Frames without a fault describe one stream in each era, so all receivers agree and read parts of
+-- it, and a monitor misses nothing.
 use Rattle.std.proofs.Common.{◌≡◌, ℕ, ◌==◌, ◌&&◌, ◌||◌, List, [], ◌∷◌, ◌++◌, map, Option, Some, None, Bool, true, false, refl, sym, ap, ◌∙◌, subst, if◌then◌else◌, append-nil, eqb-true, ℤ, All}
 use Rattle.std.proofs.lemmas.List.Elements.{All-nil, All-cons, All-append}
 use Rattle.wire_base.specs.declared.address.Side.{Side}
@@ -77,7 +78,7 @@ pub named_is : (era : ℕ) (o : Option ℕ) → is_era era o ≡ true → o ≡ 
 named_is era (Some n) e = ap (λ m. Some m) (eqb-true n era e)
 named_is era None e = absurd (cc e)
 
--- this holds of all frames of an era
+-- this holds for all frames of an era
 era_tells : Laws → (hops era base : ℕ) (frames : List Frame) → AreFaultless hops frames → HasNoOtherBase base (written_in era (sent frames)) → EraTells hops base (written_in era (sent frames)) (inward_places era base (sent frames)) (inward_packets era (sent frames))
 era_tells laws hops era base [] h only = record { each = tt; ends = λ o x end ex ee. absurd (cc ex); plain = All-nil (λ p. Plain hops p) }
 era_tells laws hops era base (f ∷ older) h only = by (era_tells laws hops era base older h.0) (is_era era f.era) refl (is_inward f.side) refl (is_based (sent older) f.era f.packet) only

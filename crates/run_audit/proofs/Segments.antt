@@ -25,7 +25,7 @@ use Rattle.run_audit.proofs.KeptOctets.{below_top, last_push, last_same, outward
 
 -- A segment without a fault agrees with its era.
 
--- no reason holds of the segment
+-- no reason applies to the segment
 pub record IsRight (ws : List Written) (w : Written) : Type 0 where
   pub base : lacks_base ws w ≡ false
   pub syn : has_other_syn ws w ≡ false
@@ -168,7 +168,7 @@ ends_on base ws s based right before o x end ex ee = by (end_of base ws) refl (s
         let there = at.2 in
         grind (arith, ints, past, there)
 
-    -- the segment has the first FIN: it is behind all octets
+    -- the segment has the first FIN: it is after all octets
     opened : (f : Bool) → tcp.has_fin s.flags ≡ f → end_of base ws ≡ None → (if f then Some (place +ℤ pos (length s.octets)) else None) ≡ Some end → o <ℤ end
     opened false is none h = absurd (cc h)
     opened true is none h =
@@ -198,7 +198,8 @@ ends_outward base ws w out before o x end ex ee = before o x end (sym same_first
     same_fin : end_of base (ws ++ w ∷ []) ≡ end_of base ws
     same_fin = end_push base ws w ∙ ap (option_or (end_of base ws)) (ap (λ (i : Bool). if i && tcp.has_fin w.flags then Some (off base (acked base ws) w.seq +ℤ pos (length w.octets)) else None) out) ∙ or_none (end_of base ws)
 
--- A segment that is emitted in an era has no fault, also if silent segments are between those before it.
+-- A segment that is emitted in an era has no fault, even if silent segments are between those
+-- before it.
 
 -- two lists have the same quantities for the tests of faults
 pub record Alike (ws vs : List Written) : Type 0 where
@@ -290,7 +291,8 @@ right_silent ws w s = record {
     base : ℕ
     base = number_in (base_of (ws ++ w ∷ []))
 
--- octets do not stray if each equals the first one at its offset, if there is one, and is before the end
+-- octets do not stray if each equals the first one at its offset, if there is one, and is before
+-- the end
 none_stray : (f : ℤ → Option ℕ) (end : Option ℤ) (z : ℤ) (octets : List ℕ)
     → ((i x : ℕ) → slice_get octets i ≡ Some x → (is_other (f (z +ℤ pos i)) x ≡ false) × (is_past end (z +ℤ pos i) ≡ false)) → some_strays f end z octets ≡ false
 none_stray f end z [] h = refl

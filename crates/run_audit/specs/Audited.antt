@@ -1,4 +1,5 @@
--- What the answer of an audit means for its words, its capture and its report (this project's profile), and how it is written.
+-- What the answer of an audit means for its words, its capture and its report (this project's
+-- profile), and how it is written.
 use Rattle.std.specs.Prelude.{◌≡◌, ◌⊎◌, ℕ, List, length, Option, Some, None, IfSome, IsSome}
 use Rattle.edge_io.specs.Faults.{Rose}
 use Rattle.pcap_file.specs.declared.head.Head.{Head}
@@ -17,7 +18,8 @@ use Rattle.run_audit.specs.Told.{Tells}
 use Rattle.run_audit.specs.Words.{asked}
 use Rattle.run_audit.specs.Sound.{AlwaysMissesNothing}
 
--- a source before and after an audit: the octets that it had left, if they are known, and its counts of faults
+-- a source before and after an audit: the octets that it had left, if they are known, and its
+-- counts of faults
 pub record Seen : Type 0 where
   pub left : Option (List ℕ)
   pub before : ℕ
@@ -27,8 +29,9 @@ pub record Seen : Type 0 where
 abbrev pub seen : Option (List ℕ) → (before now : ℕ) → Seen
 seen left before now = record { left = left; before = before; now = now }
 
--- The report, if it is known, is that of a finished run, whose entries name this number of different eras; the capture, if it is known, is whole and has this
--- number of frames, and none of them has a fault by these entries.
+-- The report, if it is known, is that of a finished run, whose entries name this number of
+-- different eras. The capture, if it is known, is whole and has this number of frames, and none of
+-- them has a fault by these entries.
 pub record IsYes (hops : ℕ) (report capture : Option (List ℕ)) (eras frames : ℕ) : Type 0 where
   pub entries : List PlainEntry
   pub finished : IfSome report (λ octets. IsFinished octets entries)
@@ -45,7 +48,8 @@ pub record OfFinished (report : Option (List ℕ)) (P : List PlainEntry → Type
 abbrev pub WhereAsked : (words : List (List ℕ)) → ((hops : ℕ) → Type 0) → Type 0
 WhereAsked words P = (hops : ℕ) × (asked words ≡ Some hops) × P hops
 
--- the same, and this is a fact of the entries of the report and of the octets of the capture, if it is known
+-- the same, and this is a fact of the entries of the report and of the octets of the capture, if it
+-- is known
 abbrev pub WhereRead : (words : List (List ℕ)) → (capture report : Seen) → ((hops : ℕ) → List PlainEntry → (capture : List ℕ) → Type 0) → Type 0
 WhereRead words capture report P = WhereAsked words (λ hops. OfFinished report.left (λ entries. IfSome capture.left (λ octets. P hops entries octets)))
 
@@ -53,7 +57,8 @@ WhereRead words capture report P = WhereAsked words (λ hops. OfFinished report.
 abbrev pub Failed : (capture report : Seen) → Type 0
 Failed capture report = Rose report.before report.now ⊎ OfFinished report.left (λ entries. Rose capture.before capture.now)
 
--- What an answer means. Nothing is claimed of a source without known octets; what is claimed of the other source does not depend on that.
+-- What an answer means. Nothing is claimed of a source without known octets; what is claimed of the
+-- other source does not depend on that.
 abbrev pub Says : (words : List (List ℕ)) → (capture report : Seen) → Answer → Type 0
 Says words capture report (answers.Yes eras frames) = WhereAsked words (λ hops. IsYes hops report.left capture.left eras frames)
 Says words capture report (answers.No number reason) = WhereRead words capture report (λ hops entries c. IsFaulty hops entries c number reason)
@@ -69,8 +74,10 @@ pub record Answered (words : List (List ℕ)) (capture report : Seen) (old new :
   pub says : Says words capture report answer
   pub told : Tells answer old new before now answered
 
--- The octets are a capture, and in each era that these entries name all receivers of the family agree on the frames that it has there, and read parts of one
--- stream, from whichever offset each starts, if the era has a base (without one nothing is read); and before the first frame and after each, a monitor that heard those so far in time misses nothing.
+-- The octets are a capture, and in each era that these entries name all receivers of the family
+-- agree on the frames that it has there. They read parts of one stream, from whichever offset each
+-- starts, if the era has a base (without one nothing is read). Before the first frame and after
+-- each, a monitor that heard those so far in time misses nothing.
 pub record FramesAgree (hops : ℕ) (entries : List PlainEntry) (capture : List ℕ) : Type 0 where
   pub head : Head
   pub packets : List Packet
@@ -79,7 +86,8 @@ pub record FramesAgree (hops : ℕ) (entries : List PlainEntry) (capture : List 
   pub reads : ReadsOneStream hops (sent (owned head.link (owners entries) (frames_of packets)))
   pub monitor : AlwaysMissesNothing hops (owned head.link (owners entries) (frames_of packets))
 
--- the answer is neither that a source failed nor that memory could not be allocated: it is one about the words and the two files alone
+-- the answer is neither that a source failed nor that memory could not be allocated: it is one
+-- about the words and the two files alone
 abbrev pub IsExact : Answer → Type 0
 IsExact answers.Unread = ⊥
 IsExact answers.Memory = ⊥
@@ -93,26 +101,29 @@ IsHeard capture report answers.Words = Unit {0}
 IsHeard capture report (answers.Report line) = IsSome report.left
 IsHeard capture report _ = IsSome report.left × IsSome capture.left
 
--- Beside an answer that holds, and whose sources have known octets, no other such answer holds.
+-- If an answer holds whose sources have known octets, no other such answer holds.
 abbrev pub AnswersAreOne : Type 0
 AnswersAreOne =
     (words : List (List ℕ)) (capture report : Seen) (one other : Answer) → IsHeard capture report one → IsExact other
     → Says words capture report one → Says words capture report other → one ≡ other
 
--- a source may fail although this answer holds: none is read if the words are refused, and the capture is read only after the report of a finished run
+-- a source may fail although this answer holds: none is read if the arguments are invalid, and the
+-- capture is read only after the report of a finished run
 abbrev pub MayFail : (capture report : Seen) → Answer → Type 0
 MayFail capture report answers.Words = ⊥
 MayFail capture report (answers.Report line) = Rose report.before report.now
 MayFail capture report _ = Rose report.before report.now ⊎ Rose capture.before capture.now
 
--- this answer is written, or that memory could not be allocated, or that a source failed, if one did
+-- this answer is written, or that memory could not be allocated, or that a source failed, if one
+-- did
 abbrev pub ToldUnless : (capture report : Seen) → Answer → (old new : Option (List ℕ)) → (before now answered : ℕ) → Type 0
 ToldUnless capture report answer old new before now answered =
     Tells answer old new before now answered
     ⊎ Tells answers.Memory old new before now answered
     ⊎ (MayFail capture report answer × Tells answers.Unread old new before now answered)
 
--- An answer that holds, and whose sources have known octets, is written, unless memory could not be allocated or a source failed.
+-- An answer that holds, and whose sources have known octets, is written, unless memory could not be
+-- allocated or a source failed.
 abbrev pub TellsExactly : (words : List (List ℕ)) → (capture report : Seen) → (old new : Option (List ℕ)) → (before now answered : ℕ) → Type 0
 TellsExactly words capture report old new before now answered =
     (answer : Answer) → IsHeard capture report answer → Says words capture report answer

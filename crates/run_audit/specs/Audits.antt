@@ -1,4 +1,5 @@
--- What an audit finds in the octets of a capture (this project's profile). Records are a list, newest first.
+-- What an audit finds in the octets of a capture (this project's profile). Records are a list,
+-- newest first.
 use Rattle.std.specs.Prelude.{◌≡◌, ◌⊎◌, ℕ, ◌≤◌, List, [], length, drop, map, Option, option_map, Ok, Err, IfSome, IsSome, nat_eq}
 use Rattle.edge_io.specs.Faults.{Rose}
 use Rattle.pcap_file.specs.declared.head.Head.{Head}
@@ -20,14 +21,16 @@ use Rattle.run_audit.specs.Eras.{Eras}
 abbrev pub frames_of : List Packet → List (List ℕ)
 frames_of packets = map (λ (p : Packet). p.octets) packets
 
--- Behind the head there are this number of frames and nothing else; they are those of the report, and none has a fault.
+-- After the head there are this number of frames and nothing else; they are those of the report,
+-- and none has a fault.
 pub record SoundFrames (hops : ℕ) (head : Head) (entries : List PlainEntry) (all : List ℕ) (frames : ℕ) : Type 0 where
   pub packets : List Packet
   pub reads : ReadsTo head.order all packets []
   pub none : NoFault hops head.link entries (frames_of packets)
   pub count : frames ≡ length packets
 
--- Behind the head this is the first fault: of a frame that is read, or of one that is missing at the end of the capture.
+-- After the head this is the first fault: of a frame that is read, or of one that is missing at the
+-- end of the capture.
 pub record FaultyFrame (hops : ℕ) (head : Head) (entries : List PlainEntry) (all : List ℕ) (number : ℕ) (reason : Reason) : Type 0 where
   pub packets : List Packet
   pub left : List ℕ
@@ -36,7 +39,8 @@ pub record FaultyFrame (hops : ℕ) (head : Head) (entries : List PlainEntry) (a
   pub stands : front_of head.order (length packets) left ≡ Ok next
   pub first : FirstFault hops head.link entries (frames_of packets) (option_map (λ (n : Packet × List ℕ). n.0.octets) next) number reason
 
--- Behind the head the capture has this flaw at this offset, and each frame before it belongs to an entry and has no fault.
+-- After the head the capture has this flaw at this offset, and each frame before it belongs to an
+-- entry and has no fault.
 pub record FlawedFrame (hops : ℕ) (head : Head) (entries : List PlainEntry) (all : List ℕ) (flaw : found.Flaw) (offset : ℕ) : Type 0 where
   pub packets : List Packet
   pub left : List ℕ
@@ -46,29 +50,31 @@ pub record FlawedFrame (hops : ℕ) (head : Head) (entries : List PlainEntry) (a
   pub each_owned : length packets ≤ length (owners entries)
   pub faultless : AreFaultless hops (owned head.link (owners entries) (frames_of packets))
 
--- the capture has a head and behind it this number of frames, which are those of the report and have no fault
+-- the capture has a head and after it this number of frames, which are those of the report and have
+-- no fault
 pub record IsSound (hops : ℕ) (entries : List PlainEntry) (capture : List ℕ) (frames : ℕ) : Type 0 where
   pub head : Head
   pub accepted : head_of capture ≡ Ok head
   pub behind : SoundFrames hops head entries (drop 24 capture) frames
 
--- the capture has a head, and behind it this is the first fault
+-- the capture has a head, and after it this is the first fault
 pub record IsFaulty (hops : ℕ) (entries : List PlainEntry) (capture : List ℕ) (number : ℕ) (reason : Reason) : Type 0 where
   pub head : Head
   pub accepted : head_of capture ≡ Ok head
   pub behind : FaultyFrame hops head entries (drop 24 capture) number reason
 
--- the capture has a head, and behind it this flaw at this offset
+-- the capture has a head, and after it this flaw at this offset
 pub record IsFlawedBehind (hops : ℕ) (entries : List PlainEntry) (capture : List ℕ) (flaw : found.Flaw) (offset : ℕ) : Type 0 where
   pub head : Head
   pub accepted : head_of capture ≡ Ok head
   pub behind : FlawedFrame hops head entries (drop 24 capture) flaw offset
 
--- the capture has this flaw at this offset, in its head or behind it
+-- the capture has this flaw at this offset, in its head or after it
 abbrev pub IsFlawed : (hops : ℕ) → List PlainEntry → (capture : List ℕ) → found.Flaw → (offset : ℕ) → Type 0
 IsFlawed hops entries capture flaw offset = ((head_of capture ≡ Err flaw) × (offset ≡ 0)) ⊎ IsFlawedBehind hops entries capture flaw offset
 
--- the cause of an answer about the frames behind a head, if the source has known octets; `before` and `now` count its faults
+-- the cause of an answer about the frames after a head, if the source has known octets; `before`
+-- and `now` count its faults
 abbrev pub WhyUnsound : (hops : ℕ) → Head → List PlainEntry → Option (List ℕ) → (before now : ℕ) → Answer → Type 0
 WhyUnsound hops head entries left before now (answers.No number reason) = IfSome left (λ all. FaultyFrame hops head entries all number reason)
 WhyUnsound hops head entries left before now (answers.Flawed flaw offset) = IfSome left (λ all. FlawedFrame hops head entries all (flaw_of flaw) offset)

@@ -55,7 +55,7 @@ abbrev pub IsJudged : (hops : ℕ) → List Frame → Frame → (old new : Eras)
 IsJudged hops frames f old new None = IsNoted hops frames f old new
 IsJudged hops frames f old new (Some reason) = IsFirstReason hops (sent frames) f reason
 
--- the states of the eras represent frames, of which there are fewer than 2^32
+-- the states of the eras represent fewer than 2^32 frames
 pub record StandsForFew (eras : Eras) : Type 0 where
   pub frames : List Frame
   pub stand : AllStandFor eras (sent frames)

@@ -1,5 +1,6 @@
--- The faults of a frame, after those before it (this project's profile). Base, Acked, First, End and the offset of a number are those of `era_state`: `ws` are
--- the segments written in the frame's era before it, and `w` is its own.
+-- The faults of a frame, after those before it (this project's profile). Base, Acked, First, End
+-- and the offset of a number are those of `era_state`: `ws` are the segments written in the frame's
+-- era before it, and `w` is its own.
 use Rattle.std.specs.Prelude.{◌≡◌, ℕ, ◌==◌, ◌&&◌, ◌||◌, not, Bool, true, false, List, [], ◌∷◌, ◌++◌, length, ℤ, pos, ◌+ℤ◌, int_le, int_lt, Option, Some, None, IsSome, is_none, is_ok}
 use Rattle.std.specs.Ordering.{int_eq}
 use Rattle.std.specs.List.{AllByRecursion}
@@ -26,8 +27,9 @@ use Rattle.run_audit.specs.Tops.{top}
 abbrev pub is_segment : List ℕ → Bool
 is_segment p = is_ok (header.parsed p) && (ip.protocol p == 6) && is_ok (segment.parsed Skip 0 (ip.payload p))
 
--- The frame is well read: one that went inwards is plain for `hops` routers, and is TCP if its entry names an era; one that went outwards in an era is a
--- segment; and an entry without a side names no era.
+-- The frame is well read. One that went inwards is plain for `hops` routers, and is TCP if its
+-- entry names an era. One that went outwards in an era is a segment. An entry without a side names
+-- no era.
 abbrev pub IsWellReadAs : (hops : ℕ) → List ℕ → Option Side → (era : Option ℕ) → Type 0
 IsWellReadAs hops p (Some Inward) era = Plain hops p × (IsSome era → ip.protocol p ≡ 6)
 IsWellReadAs hops p (Some Outward) era = IsSome era → is_segment p ≡ true
@@ -55,13 +57,15 @@ abbrev pub is_past : (end : Option ℤ) → (place : ℤ) → Bool
 is_past None place = false
 is_past (Some end) place = int_le end place
 
--- of octets that begin at `place`, one differs from the first one at its offset, or is at or past the end
+-- of octets that begin at `place`, one differs from the first one at its offset, or is at or past
+-- the end
 abbrev pub some_strays : (first : ℤ → Option ℕ) → (end : Option ℤ) → (place : ℤ) → List ℕ → Bool
 some_strays first end place [] = false
 some_strays first end place (octet ∷ octets) =
     (is_other (first place) octet || is_past end place) || some_strays first end (place +ℤ pos 1) octets
 
--- octet: one of its octets differs from the first one at its offset, or is at or past the end of the segments before it
+-- octet: one of its octets differs from the first one at its offset, or is at or past the end of
+-- the segments before it
 abbrev pub has_other_octet : List Written → Written → Bool
 has_other_octet ws w =
     let base = base_at (ws ++ w ∷ []) in
@@ -72,13 +76,15 @@ abbrev pub fin_strays : (end : Option ℤ) → (top place : ℤ) → Bool
 fin_strays None top place = int_lt place top
 fin_strays (Some end) top place = not (int_eq place end)
 
--- fin: its FIN is at another offset than the end of the segments before it; or, if they have none, it is below Top of these segments and its own
+-- fin: its FIN is not at the end of the segments before it; or, if they have no end, it is below
+-- Top of these segments and its own
 abbrev pub has_other_fin : List Written → Written → Bool
 has_other_fin ws w =
     let base = base_at (ws ++ w ∷ []) in
     tcp.has_fin w.flags && fin_strays (end_of base ws) (top base (ws ++ w ∷ [])) (off base (acked base ws) w.seq +ℤ pos (length w.octets))
 
--- a packet went inwards in an era, and this holds of its segment after those written in the era before it
+-- a packet went inwards in an era, and this holds for its segment after those written in the era
+-- before it
 abbrev pub in_stream_as : (List Written → Written → Bool) → List Sent → Option Side → (era : Option ℕ) → Option Segment → Bool
 in_stream_as test older (Some Inward) (Some era) (Some s) = test (written_in era older) (written_of true s)
 in_stream_as test older _ _ _ = false
@@ -87,7 +93,8 @@ in_stream_as test older _ _ _ = false
 abbrev pub in_stream : (List Written → Written → Bool) → List Sent → Frame → Bool
 in_stream test older f = in_stream_as test older f.side f.era (segment_of f.packet)
 
--- the reason holds of the frame, after what was sent before it; `count` holds of no frame, since it is the reason for one that is missing
+-- the reason applies to the frame, after what was sent before it; `count` holds for no frame, since
+-- it is the reason for one that is missing
 abbrev pub Holds : (hops : ℕ) → List Sent → Frame → Reason → Type 0
 Holds hops older f Count = ⊥
 Holds hops older f Misread = IsWellRead hops f → ⊥
@@ -105,12 +112,12 @@ earlier Syn = Count ∷ Misread ∷ Base ∷ []
 earlier Octet = Count ∷ Misread ∷ Base ∷ Syn ∷ []
 earlier Fin = Count ∷ Misread ∷ Base ∷ Syn ∷ Octet ∷ []
 
--- this is the first reason that holds of the frame
+-- this is the first reason that applies to the frame
 pub record IsFirstReason (hops : ℕ) (older : List Sent) (f : Frame) (reason : Reason) : Type 0 where
   pub holds : Holds hops older f reason
   pub none_before : AllByRecursion (λ other. Holds hops older f other → ⊥) (earlier reason)
 
--- no reason holds of the frame
+-- no reason applies to the frame
 pub record IsFaultless (hops : ℕ) (older : List Sent) (f : Frame) : Type 0 where
   pub read : IsWellRead hops f
   pub base : in_stream lacks_base older f ≡ false

@@ -1,4 +1,5 @@
--- The octets that are kept of a stream, by their raised offsets: a raised offset is the offset plus 2^31.
+-- The octets that are kept of a stream, by their raised offsets: a raised offset is the offset plus
+-- 2^31.
 use Rattle.std.specs.Prelude.{◌≡◌, ℕ, ◌+◌, ◌-◌, ◌/◌, ◌%◌, ◌||◌, Bool, false, List, [], ◌∷◌, Option, Some, None, nat_le, slice_get, get_or, Box, if◌then◌else◌}
 use Rattle.std.specs.BTreeMap.{get}
 use Rattle.std.specs.Option.{option_or}
@@ -35,7 +36,8 @@ abbrev pub is_at_end : Option Offset → ℕ → Bool
 is_at_end None raised = false
 is_at_end (Some end) raised = nat_le end.raised raised
 
--- of octets that begin at `place`, one differs from the octet that is kept at its offset, or is at or past the end
+-- of octets that begin at `place`, one differs from the octet that is kept at its offset, or is at
+-- or past the end
 abbrev pub some_stray : (ℕ → Option ℕ) → Option Offset → (place : ℕ) → List ℕ → Bool
 some_stray kept end place [] = false
 some_stray kept end place (octet ∷ octets) =

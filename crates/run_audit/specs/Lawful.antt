@@ -1,4 +1,5 @@
--- The frames and the entries of a lawful trace have no fault (this project's profile). A trace is a list, the newest item first.
+-- The frames and the entries of a lawful trace have no fault (this project's profile). A trace is a
+-- list, the newest item first.
 use Rattle.std.specs.Prelude.{◌≡◌, ℕ, ◌+◌, ◌^◌, ◌<◌, ◌≤◌, ◌&&◌, not, Bool, false, List, [], ◌∷◌, ◌++◌, length, map, reverse, Some, None}
 use Rattle.std.specs.List.{AllByRecursion, flat_map, list_any}
 use Rattle.wire_base.specs.declared.address.Link.{Link}
@@ -53,8 +54,8 @@ abbrev pub LawfulHasNoFault : Type 0
 LawfulHasNoFault =
     (settings : PlainSettings) (link : Link) (trace : List Item) → IsSound settings link trace → NoFault settings.hops link (entries_written trace) (frames_written trace)
 
--- The answer `yes` holds of a capture of these frames and a finished report of these entries, with the number of eras that the report names and that of the
--- frames.
+-- The answer `yes` applies to a capture of these frames and a finished report of these entries,
+-- with the number of eras that the report names and that of the frames.
 abbrev pub LawfulIsYes : Type 0
 LawfulIsYes =
     (settings : PlainSettings) (head : Head) (trace : List Item) (packets : List Packet) (report capture : List ℕ)
@@ -75,13 +76,14 @@ abbrev pub records_octets : Order → List Packet → List ℕ
 records_octets order [] = []
 records_octets order (w ∷ older) = records_octets order older ++ record_octets order w.seconds w.fraction w.octets
 
--- One more item appends the records of its frames, in order, to the octets, and adds the number of its frames to the number of records.
+-- One more item appends the records of its frames, in order, to the octets, and adds the number of
+-- its frames to the number of records.
 pub record IsWrittenBehind (order : Order) (item : Item) (older : List Item) : Type 0 where
   pub octets : records_octets order (records_written (item ∷ older))
       ≡ records_octets order (records_written older) ++ flat_map (λ frame. record_octets order item.packet.seconds item.packet.fraction frame) item.frames
   pub count : length (records_written (item ∷ older)) ≡ length (records_written older) + length item.frames
 
--- this holds of each item after others, in either byte order
+-- this holds for each item after others, in either byte order
 abbrev pub ItemsAreWrittenInOrder : Type 0
 ItemsAreWrittenInOrder = (order : Order) (item : Item) (older : List Item) → IsWrittenBehind order item older
 
@@ -97,28 +99,30 @@ last_written trace = End (length trace) (length (records_written trace))
 abbrev pub report_written : List Item → List ℕ
 report_written trace = report_text 2 (entries trace) (last_written trace)
 
--- the record's time has 32 bits for seconds and 32 for the fraction, and it has at most 262,144 octets
+-- the record's time has 32 bits for seconds and 32 for the fraction, and it has at most 262,144
+-- octets
 pub record RecordFits (w : Packet) : Type 0 where
   pub seconds : w.seconds < 2 ^ 32
   pub fraction : w.fraction < 2 ^ 32
   pub octets : length w.octets ≤ MAX_CAPTURED
 
--- The trace fits the formats of its two files: there are at most 2^32 - 1 records, each of which fits, and fewer than 2^32 entries, in a report of at most
--- 67,108,864 octets.
+-- The trace fits the formats of its two files: there are at most 2^32 - 1 records, each of which
+-- fits, and fewer than 2^32 entries, in a report of at most 67,108,864 octets.
 pub record FitsFiles (trace : List Item) : Type 0 where
   pub records : AllByRecursion RecordFits (records_written trace)
   pub few : length (records_written trace) ≤ 4294967295
   pub lines : length trace < 2 ^ 32
   pub small : length (report_written trace) ≤ is_most
 
--- The numbers of the entries of a lawful trace are in the ranges of their types, if fewer than 2^32 frames are written for fewer than 2^32 records.
+-- The numbers of the entries of a lawful trace are in the ranges of their types, if fewer than 2^32
+-- frames are written for fewer than 2^32 records.
 abbrev pub EntriesFit : Type 0
 EntriesFit =
     (settings : PlainSettings) (link : Link) (trace : List Item) → IsSound settings link trace → length (frames_written trace) < 2 ^ 32 → length trace < 2 ^ 32
     → AllByRecursion EntryFits (entries trace)
 
--- The answer `yes` holds of the two files written for a lawful trace, if the trace fits their formats, with the number of eras that the report names and that
--- of the frames.
+-- The answer `yes` applies to the two files written for a lawful trace, if the trace fits their
+-- formats, with the number of eras that the report names and that of the frames.
 abbrev pub WrittenIsYes : Type 0
 WrittenIsYes =
     (settings : PlainSettings) (head : Head) (trace : List Item) → IsSound settings head.link trace → FitsFiles trace

@@ -19,14 +19,16 @@ use Rattle.run_audit.specs.Tops.{last_end}
 abbrev pub acked_with : (base acked number : ℕ) → ℕ
 acked_with base acked number = max acked (number_in (natural (off base acked number)))
 
--- read by this base, Acked, the first octets, the offset behind the last octet, and End are those of these segments
+-- read by this base, Acked, the first octets, the offset after the last octet, and End are those of
+-- these segments
 pub record Tells (base : ℕ) (l : Ledger) (ws : List Written) : Type 0 where
   pub acked_is : l.acked ≡ acked base ws
   pub top_is : some_offset l.top ≡ last_end base ws
   pub end_is : some_offset l.end ≡ end_of base ws
   pub octets_are : (raised : ℕ) → kept_at l.octets raised ≡ first base ws (receiver.offset_in raised)
 
--- Every field is the quantity of the segments, read by their base; before a base is fixed, read by any base.
+-- Every field is the quantity of the segments, read by their base; before a base is fixed, read by
+-- any base.
 pub record StandsFor (l : Ledger) (ws : List Written) : Type 0 where
   pub base_is : l.base ≡ base_of ws
   pub tells : (base : ℕ) → HasNoOtherBase base ws → Tells base l ws
@@ -48,11 +50,11 @@ pub record IsOutward (flags number : ℕ) (w : Written) : Type 0 where
 abbrev pub counted : List Written → Written → List Written
 counted ws w = if is_some (base_of (ws ++ w ∷ [])) then ws ++ w ∷ [] else ws
 
--- the state in which a SYN has fixed the base at the number behind it, if none was fixed
+-- the state in which a SYN has fixed the base at the number after it, if none was fixed
 abbrev pub settled : Ledger → (syn : Bool) → (behind : ℕ) → Ledger
 settled l syn behind = if syn && is_none l.base then record l { base = Some behind } else l
 
--- the offset behind all octets, with octets that end at `behind`
+-- the offset after all octets, with octets that end at `behind`
 abbrev pub raised_to : (top : Option Offset) → (behind : Offset) → Offset
 raised_to None behind = behind
 raised_to (Some top) behind = record { raised = max top.raised behind.raised }
@@ -61,7 +63,8 @@ raised_to (Some top) behind = record { raised = max top.raised behind.raised }
 abbrev pub top_with : (top : Option Offset) → (octets : ℕ) → (behind : Offset) → Option Offset
 top_with top octets behind = if nat_lt 0 octets then Some (raised_to top behind) else top
 
--- a FIN may be at this offset: at the end, if there is one; else not below the offset behind all octets, or not below 0 if there are none
+-- a FIN may be at this offset: at the end, if there is one; else not below the offset after all
+-- octets, or not below 0 if there are none
 abbrev pub fin_fits : (end top : Option Offset) → (place : Offset) → Bool
 fin_fits None None place = nat_le (2 ^ 31) place.raised
 fin_fits None (Some top) place = nat_le top.raised place.raised
@@ -92,11 +95,13 @@ abbrev pub IsVerdict : (new : Ledger) → List Written → Written → Option Re
 IsVerdict new ws w None = (stream_reason ws w ≡ None) × StandsFor new (ws ++ w ∷ [])
 IsVerdict new ws w (Some reason) = stream_reason ws w ≡ Some reason
 
--- this is the first fault of the octets and the FIN alone; if they have none, the state, read by this base, is that of the segments with it
+-- this is the first fault of the octets and the FIN alone; if they have none, the state, read by
+-- this base, is that of the segments with it
 abbrev pub IsRightAt : (base : ℕ) → (new : Ledger) → List Written → Written → Option Reason → Type 0
 IsRightAt base new ws w None = (octets_reason ws w ≡ None) × Tells base new (ws ++ w ∷ [])
 IsRightAt base new ws w (Some reason) = octets_reason ws w ≡ Some reason
 
--- the same, if the old state is that of the segments before it, and with the segment this base is fixed
+-- the same, if the old state is that of the segments before it, and with the segment this base is
+-- fixed
 abbrev pub IsVerdictAt : (base : ℕ) → (old new : Ledger) → List Written → Written → Option Reason → Type 0
 IsVerdictAt base old new ws w verdict = Tells base old ws → base_of (ws ++ w ∷ []) ≡ Some base → IsRightAt base new ws w verdict

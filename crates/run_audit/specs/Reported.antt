@@ -70,7 +70,8 @@ abbrev pub WereLeft : Option (List ℕ) → List ℕ → Type 0
 WereLeft None octets = Unit {0}
 WereLeft (Some xs) octets = xs ≡ octets
 
--- the cause of an answer instead of entries, if the source has known octets; `before` and `now` count its faults
+-- the cause of an answer instead of entries, if the source has known octets; `before` and `now`
+-- count its faults
 abbrev pub WhyUnread : Option (List ℕ) → (before now : ℕ) → Answer → Type 0
 WhyUnread left before now (answers.Report line) = IfSome left (λ octets. IsUnfinished octets line)
 WhyUnread left before now answers.Unread = Rose before now

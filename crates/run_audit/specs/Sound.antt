@@ -1,4 +1,5 @@
--- A capture and a report without a fault make receivers agree, whoever wrote them; and by which base their segments are read.
+-- A capture and a report without a fault make receivers agree, whoever wrote them; and by which
+-- base their segments are read.
 use Rattle.std.specs.Prelude.{◌≡◌, ℕ, true, List, [], ◌∷◌, map, None}
 use Rattle.wire_base.specs.Segments.{Written}
 use Rattle.era_state.specs.Quantities.{base_of, acked}
@@ -7,20 +8,23 @@ use Rattle.era_agreement.specs.Agreement.{Agree, MissesNothingInTime, ReadsOneSt
 use Rattle.run_audit.specs.Frames.{Frame, is_inward, sent}
 use Rattle.run_audit.specs.FirstFault.{AreFaultless}
 
--- In each era any two receivers of the family behind at most `hops` routers agree on the frames that went inwards, each at its offset.
+-- In each era any two receivers of the family behind at most `hops` routers agree on the frames
+-- that went inwards, each at its offset.
 abbrev pub FaultlessAgrees : Type 0
 FaultlessAgrees = (hops : ℕ) (frames : List Frame) → AreFaultless hops frames → Agree hops (sent frames)
 
--- In each era whose base is fixed every receiver reads a part of one stream of these frames, from whichever offset it starts.
+-- In each era whose base is fixed every receiver reads a part of one stream of these frames, from
+-- whichever offset it starts.
 abbrev pub FaultlessReadsOneStream : Type 0
 FaultlessReadsOneStream = (hops : ℕ) (frames : List Frame) → AreFaultless hops frames → ReadsOneStream hops (sent frames)
 
--- Before the first of these frames and after each, a monitor that heard those so far in time misses nothing.
+-- Before the first of these frames and after each, a monitor that heard those so far in time misses
+-- nothing.
 abbrev pub AlwaysMissesNothing : (hops : ℕ) → List Frame → Type 0
 AlwaysMissesNothing hops [] = MissesNothingInTime hops (sent [])
 AlwaysMissesNothing hops (f ∷ older) = AlwaysMissesNothing hops older × MissesNothingInTime hops (sent (f ∷ older))
 
--- this holds of frames without a fault
+-- this holds for frames without a fault
 abbrev pub FaultlessMissesNothing : Type 0
 FaultlessMissesNothing = (hops : ℕ) (frames : List Frame) → AreFaultless hops frames → AlwaysMissesNothing hops frames
 

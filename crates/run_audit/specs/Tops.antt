@@ -1,5 +1,6 @@
--- Top of an era (this project's profile), as the audit reads it. Segments are read as in `era_state`. Another program than norm may have written them, so
--- their octets may be below offset 0, and so may Top.
+-- Top of an era (this project's profile), as the audit reads it. Segments are read as in
+-- `era_state`. A program other than norm may have written them, so their octets may be below offset
+-- 0, and so may Top.
 use Rattle.std.specs.Prelude.{ℕ, ◌&&◌, List, [], ◌∷◌, length, ℤ, pos, ◌+ℤ◌, Option, Some, None, if◌then◌else◌}
 use Rattle.std.specs.Int.{int_max}
 use Rattle.wire_base.specs.Segments.{Written}
@@ -8,7 +9,7 @@ use Rattle.era_state.specs.Offsets.{off}
 use Rattle.era_state.specs.Marks.{has_octets}
 use Rattle.era_state.specs.Quantities.{acked}
 
--- the offset behind the octets of an inward segment, if it has octets
+-- the offset after the octets of an inward segment, if it has octets
 abbrev pub octets_end : (base acked : ℕ) → Written → Option ℤ
 octets_end base acked w = if w.inward && has_octets w then Some (off base acked w.seq +ℤ pos (length w.octets)) else None
 
@@ -23,7 +24,7 @@ abbrev pub furthest : {A : Type 0} → (A → Option ℤ) → List A → Option 
 furthest f [] = None
 furthest f (x ∷ xs) = greater (f x) (furthest f xs)
 
--- the greatest offset behind the octets of an inward segment, if one of them has octets
+-- the greatest offset after the octets of an inward segment, if one of them has octets
 abbrev pub last_end : ℕ → List Written → Option ℤ
 last_end base ws = furthest (λ (m : Moment Written). octets_end base (acked base m.before) m.now) (moments ws)
 

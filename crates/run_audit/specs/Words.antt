@@ -6,7 +6,8 @@ use Rattle.norm_settings.specs.Options.{number_within}
 abbrev pub hops_of : List ℕ → Option ℕ
 hops_of word = if nat_le (length word) 3 then number_within 0 254 word else None
 
--- the number of routers behind the bridge, if the words are two names that are not empty and this number
+-- the number of routers behind the bridge, if the words are two names that are not empty and this
+-- number
 abbrev pub asked : List (List ℕ) → Option ℕ
 asked (capture ∷ report ∷ hops ∷ []) = if nat_lt 0 (length capture) && nat_lt 0 (length report) then hops_of hops else None
 asked _ = None

@@ -11,7 +11,8 @@ use std::alloc::{AllocError, Global};
 pub enum Reason {
     /// The frame is in the capture or in the report alone.
     Count,
-    /// Receivers may read it otherwise than by its fields, or its entry names an era that it is no segment of.
+    /// A receiver may differ from its fields in how it reads it, or its entry names an era that it
+    /// is no segment of.
     Plain,
     /// It has octets or a FIN, and neither it nor an earlier segment fixes the base of its era.
     Base,
@@ -19,8 +20,8 @@ pub enum Reason {
     Syn,
     /// One of its octets differs from the first one at its offset, or is at or past the end.
     Octet,
-    /// Its FIN is not at the end; or no end is known before it, and it is below the offset behind all octets, which is
-    /// 0 without octets.
+    /// Its FIN is not at the end; or no end is known before it, and it is below the offset after
+    /// all octets, which is 0 without octets.
     Fin,
 }
 
@@ -38,21 +39,22 @@ pub enum Flaw {
 /// The answer of an audit.
 #[derive(Clone, Copy, Debug, PartialEq, Eq)]
 pub enum Answer {
-    /// No frame has a fault. The number of different eras that the report names, and the number of written frames.
+    /// No frame has a fault. The number of different eras that the report names, and the number of
+    /// written frames.
     Yes { eras: usize, frames: u64 },
     /// The first frame with a fault, counted from 1.
     No { frame: u64, reason: Reason },
     /// The words are not those of an audit.
     Words,
-    /// The capture is refused or cut: its head or a record has this flaw. The offset is that of the head or record, in
-    /// octets.
+    /// The capture is refused or cut: its head or a record has this flaw. The offset is that of the
+    /// head or record, in octets.
     Flawed { flaw: Flaw, offset: u64 },
     /// A source failed.
     Unread,
     /// Memory could not be allocated.
     Memory,
-    /// The report is not that of a finished run. The number of its first malformed line, counted from 1, or of its
-    /// `stop` line; 0 if it is too long.
+    /// The report is not that of a finished run. The number of its first malformed line, counted
+    /// from 1, or of its `stop` line; 0 if it is too long.
     Report { line: u64 },
 }
 
@@ -162,8 +164,8 @@ impl Answer {
     }
 }
 
-/// Writes the line of an answer. Returns its status, or 7 if the output fails. If memory for the line cannot be
-/// allocated, the answer is `Memory`.
+/// Writes the line of an answer. Returns its status, or 7 if the output fails. If memory for the
+/// line cannot be allocated, the answer is `Memory`.
 pub(crate) fn tell<K: Sink>(alloc: Global, answer: Answer, out: &mut K) -> u8
     ensures told { Tells answer (K.held out.old) (K.held out.new) (K.fault_count out.old) (K.fault_count out.new) result
         ⊎ Tells Answer.Memory (K.held out.old) (K.held out.new) (K.fault_count out.old) (K.fault_count out.new) result }

@@ -31,7 +31,8 @@ use wire_base::{MAX_CAPTURED, packet_in};
 
 /// Audits a written capture and its report, writes one line to `out`, and returns the status:
 ///
-/// - 0, `yes E F`: no frame has a fault; E is the number of different eras that the report names, F that of frames;
+/// - 0, `yes E F`: no frame has a fault; E is the number of different eras that the report names, F
+///   that of frames;
 /// - 1, `no F REASON`: frame F, counted from 1, is the first with a fault;
 /// - 2, `stop words`: the words are not those of an audit;
 /// - 3, `stop magic 0` and the like: the capture is refused;
@@ -39,11 +40,14 @@ use wire_base::{MAX_CAPTURED, packet_in};
 /// - 5, `stop read`: the capture or the report failed;
 /// - 7: `out` failed;
 /// - 8, `stop memory`: memory could not be allocated;
-/// - 9, `stop report N`: the report is not that of a finished run, by its line N; N is 0 for a report of over
-///   67,108,864 octets.
+/// - 9, `stop report N`: the report is not that of a finished run, by its line N; N is 0 for a
+///   report of over 67,108,864 octets.
 ///
-/// The words are the names of the two files and the number of routers behind the bridge. The report is read first, to
-/// its end, and then the capture, frame by frame.
+/// The words are the names of the two files and the number of routers behind the bridge. The report
+/// is read first, to its end, and then the capture, frame by frame.
+///
+/// The number of routers is from 0 to 254. `no F REASON`: REASON is count, plain, base, syn, octet
+/// or fin.
 pub fn audit<C: Source, R: Source, K: Sink>(
     alloc: Global,
     words: &[String],
@@ -56,14 +60,16 @@ pub fn audit<C: Source, R: Source, K: Sink>(
         (seen (R.left report.old) (R.fault_count report.old) (R.fault_count report.new))
         (K.held out.old) (K.held out.new) (K.fault_count out.old) (K.fault_count out.new) result }
 
-    // At 0 all receivers agree and read parts of one stream, and after each frame a monitor that heard its frames in
-    // time misses nothing, whoever wrote the two files, if the octets of both are known.
+    // At 0, if the octets of both files are known, all receivers agree and read parts of one
+    // stream, whoever wrote the files. After each frame a monitor that heard its frames in time
+    // misses nothing.
     ensures agreement { result ≡ 0 → WhereRead (map string_bytes words.now)
         (seen (C.left capture.old) (C.fault_count capture.old) (C.fault_count capture.new))
         (seen (R.left report.old) (R.fault_count report.old) (R.fault_count report.new))
         FramesAgree }
 
-    // The one answer that holds is written, unless memory could not be allocated, or a source or the output failed.
+    // The one answer that holds is written, unless memory could not be allocated, or a source or
+    // the output failed.
     ensures exactly { TellsExactly (map string_bytes words.now)
         (seen (C.left capture.old) (C.fault_count capture.old) (C.fault_count capture.new))
         (seen (R.left report.old) (R.fault_count report.old) (R.fault_count report.new))
@@ -176,7 +182,7 @@ fn judge_capture<C: Source>(
     judge_frames(eras, hops, head, entries, buffer, capture)
 }
 
-// Judges each frame behind a head. Returns their number.
+// Judges each frame after a head. Returns their number.
 fn judge_frames<C: Source>(
     eras: &mut Eras,
     hops: u8,
@@ -220,7 +226,8 @@ fn judge_frames<C: Source>(
     }
 }
 
-// Returns the answer that the frame behind `count` others is missing in the capture or in the report.
+// Returns the answer that the frame after `count` others is missing in the capture or in the
+// report.
 fn missing(count: u64) -> Answer
     requires { count < 2 ^ 32 }
     ensures { result ≡ Answer.No (count + 1) Reason.Count }

@@ -22,7 +22,8 @@ use rule_book::Entry;
 use tcp_codec::{SumRule, Tcp};
 use wire_base::{Flags, Side, protocol};
 
-/// Returns the fault of a packet that belongs to this entry. A packet without a fault is added to its era.
+/// Returns the fault of a packet that belongs to this entry. A packet without a fault is added to
+/// its era.
 pub(crate) fn judge(
     eras: &mut Eras,
     hops: u8,
@@ -104,7 +105,8 @@ fn judge_outward(eras: &mut Eras, era: u32, packet: &[u8]) -> Result<Option<Reas
     Ok(None)
 }
 
-// Returns the header of the TCP segment in a packet, or None if the packet has none; the TCP checksum is not tested.
+// Returns the header of the TCP segment in a packet, or None if the packet has none; the TCP
+// checksum is not tested.
 fn segment_in(packet: &[u8]) -> Option<Tcp>
     ensures none { IfNone result (is_segment packet.now ≡ false) }
     ensures some { IfSome result (λ head. IsSegment packet.now head) }

@@ -19,14 +19,14 @@ use tcp_norm::laws::{
     calls_are_emitted, lives_are_last, packets_are_its_own, packets_are_plain, probes_are_silent,
 };
 
-/// States that the segments of an era that are counted have the base of all its segments, and that they acknowledge
-/// nothing before a base is fixed.
+/// States that the segments of an era that are counted have the base of all its segments, and that
+/// they acknowledge nothing before a base is fixed.
 pub fn eras_are_read_from_the_base()
     ensures { EachIsReadFromBase }
 {}
 
-/// States that all receivers agree on the frames that went inwards in each era, whoever wrote them, if no frame has a
-/// fault.
+/// States that all receivers agree on the frames that went inwards in each era, whoever wrote them,
+/// if no frame has a fault.
 pub fn faultless_agrees()
     ensures { FaultlessAgrees }
 {
@@ -39,8 +39,8 @@ pub fn faultless_agrees()
     members_agree();
 }
 
-/// States that in each era every receiver reads a part of one stream of these frames, from whichever offset it starts, by
-/// the same premise.
+/// States that in each era every receiver reads a part of one stream of these frames, from
+/// whichever offset it starts, by the same premise.
 pub fn faultless_reads_one_stream()
     ensures { FaultlessReadsOneStream }
 {
@@ -53,8 +53,8 @@ pub fn faultless_reads_one_stream()
     members_read_parts();
 }
 
-/// States that before the first of these frames and after each a monitor which heard those so far in
-/// time misses nothing in each era, by the same premise.
+/// States that before the first of these frames and after each a monitor which heard those so far
+/// in time misses nothing in each era, by the same premise.
 pub fn faultless_misses_nothing()
     ensures { FaultlessMissesNothing }
 {
@@ -67,15 +67,15 @@ pub fn faultless_misses_nothing()
     monitors_miss_nothing();
 }
 
-/// States that beside an answer that holds, and whose sources have known octets, no other answer holds, except that a
-/// source failed or that memory could not be allocated.
+/// States that if an answer holds whose sources have known octets, no other answer holds, except
+/// that a source failed or that memory could not be allocated.
 pub fn answers_are_one()
     ensures { AnswersAreOne }
 {}
 
-/// States that frames whose segments are emitted, each after those before it, have no fault; between them there may be
-/// frames without SYN, FIN and octets. It requires that in no era a segment follows one that acknowledges before the
-/// base is fixed.
+/// States that frames whose segments are emitted, each after those before it, have no fault;
+/// between them there may be frames without SYN, FIN and octets. It requires that in no era a
+/// segment follows one that acknowledges before the base is fixed.
 pub fn emitted_has_no_fault()
     ensures { EmittedHasNoFault }
 {
@@ -100,8 +100,8 @@ pub fn resets_are_last()
     lawful_calls_are_made();
 }
 
-/// States that the frames of a lawful trace are those of its entries, and that none of them has a fault. A run with
-/// `--mtu` cuts these frames before it writes them, so it is not covered.
+/// States that the frames of a lawful trace are those of its entries, and that none of them has a
+/// fault. A run with `--mtu` cuts these frames before it writes them, so it is not covered.
 pub fn lawful_has_no_fault()
     ensures { LawfulHasNoFault }
 {
@@ -112,21 +112,22 @@ pub fn lawful_has_no_fault()
     emitted_has_no_fault();
 }
 
-/// States that the answer `yes` holds of a capture of the frames of a lawful trace and a finished report of its
-/// entries.
+/// States that the answer `yes` applies to a capture of the frames of a lawful trace and a finished
+/// report of its entries.
 pub fn lawful_is_yes()
     ensures { LawfulIsYes }
 {
     lawful_has_no_fault();
 }
 
-/// States that the written capture of a trace has the records of its items' frames in the order of the items.
+/// States that the written capture of a trace has the records of its items' frames in the order of
+/// the items.
 pub fn items_are_written_in_order()
     ensures { ItemsAreWrittenInOrder }
 {}
 
-/// States that the numbers of the entries of a lawful trace are in the ranges of a report's text, if frames and
-/// records are fewer than 2^32.
+/// States that the numbers of the entries of a lawful trace are in the ranges of a report's text,
+/// if frames and records are fewer than 2^32.
 pub fn entries_fit()
     ensures { EntriesFit }
 {
@@ -138,7 +139,8 @@ pub fn entries_fit()
     acked_grows_near();
 }
 
-/// States that the answer `yes` holds of the two files written for a lawful trace, if the trace fits their formats.
+/// States that the answer `yes` applies to the two files written for a lawful trace, if the trace
+/// fits their formats.
 pub fn written_is_yes()
     ensures { WrittenIsYes }
 {

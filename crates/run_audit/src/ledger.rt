@@ -29,8 +29,9 @@ impl Inward<'_> {
     }
 }
 
-/// The state of an era: its base, once it is fixed; the greatest acknowledged offset; the offset behind all octets, if
-/// there are any; the end, once a FIN sets it; and the first octets at their offsets.
+/// The state of an era: its base, once it is fixed; the greatest acknowledged offset; and the
+/// offset after all octets, if there are any. Also the end, once a FIN sets it, and the first
+/// octets at their offsets.
 #[derive(Drop)]
 pub(crate) struct Ledger {
     base: Option<u32>,
@@ -56,8 +57,8 @@ impl Ledger {
         }
     }
 
-    /// Adds a segment that went outwards, with these flags and this acknowledgment number. Before a base is fixed a RST
-    /// acknowledges nothing.
+    /// Adds a segment that went outwards, with these flags and this acknowledgment number. Before a
+    /// base is fixed a RST acknowledges nothing.
     pub(crate) fn acknowledge(&mut self, flags: Flags, number: u32)
         requires { self.old.acked < 2 ^ 63 }
         ensures { (ws : List Written) (w : Written) → StandsFor self.old ws → IsOutward flags.0 number w → StandsFor self.new (counted ws w) }
@@ -76,7 +77,8 @@ impl Ledger {
         self.reach(number, number);
     }
 
-    /// Adds a segment that went inwards, or returns its fault; after a fault the state has no meaning.
+    /// Adds a segment that went inwards, or returns its fault; after a fault the state has no
+    /// meaning.
     pub(crate) fn judge(&mut self, segment: Inward<'_>) -> Result<Option<Reason>, NoMemory>
         requires room { self.old.acked < 2 ^ 63 }
         requires short { length segment.octets.now < 2 ^ 16 }
@@ -96,7 +98,7 @@ impl Ledger {
         self.judge_octets(base, segment)
     }
 
-    // Fixes the base at the number behind a SYN, if none is fixed. Returns the base.
+    // Fixes the base at the number after a SYN, if none is fixed. Returns the base.
     fn base_with(&mut self, syn: bool, behind: u32) -> Option<u32>
         ensures changes { self.new ≡ settled self.old syn behind }
         ensures base { result ≡ self.new.base }
@@ -108,7 +110,8 @@ impl Ledger {
         self.base
     }
 
-    // Adds the octets and the FIN of a segment that went inwards, with this base. Returns their fault.
+    // Adds the octets and the FIN of a segment that went inwards, with this base. Returns their
+    // fault.
     fn judge_octets(&mut self, base: u32, segment: Inward<'_>) -> Result<Option<Reason>, NoMemory>
         requires room { self.old.acked < 2 ^ 63 }
         requires short { length segment.octets.now < 2 ^ 16 }
@@ -127,7 +130,7 @@ impl Ledger {
         Ok(None)
     }
 
-    // Raises the offset behind all octets to the end of a segment's octets, if it has any.
+    // Raises the offset after all octets to the end of a segment's octets, if it has any.
     fn rise(&mut self, octets: usize, behind: Offset)
         ensures { self.new ≡ record self.old { top = top_with self.old.top octets behind } }
     {
@@ -136,8 +139,9 @@ impl Ledger {
         }
     }
 
-    // Returns whether a segment has no FIN, or one that may be at this offset: at the end, or, if there is no end,
-    // not below the offset behind all octets, which is 0 without octets. The first FIN sets the end.
+    // Returns whether a segment has no FIN, or one that may be at this offset. If an end is
+    // known, it must be there. Otherwise it must not be below the offset after all octets, which is
+    // 0 without octets. The first FIN sets the end.
     fn ends_at(&mut self, fin: bool, place: Offset) -> bool
         ensures right { result ≡ may_end fin self.old.end self.old.top place }
         ensures changes { self.new ≡ record self.old { end = end_with fin self.old.end place } }
@@ -164,7 +168,7 @@ impl Ledger {
     }
 }
 
-// Returns the offset behind all octets, with octets that end at `behind`.
+// Returns the offset after all octets, with octets that end at `behind`.
 fn raise(top: Option<Offset>, behind: Offset) -> Offset
     ensures { result ≡ raised_to top behind }
 {

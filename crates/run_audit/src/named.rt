@@ -15,7 +15,8 @@ use std::alloc::Global;
 /// The state of each era, by the number of the era.
 pub(crate) type Eras = IndexMap<u32, Ledger>;
 
-/// Returns the eras that the entries name after `@`, `+` or `-`, in the order of their first names, without segments.
+/// Returns the eras that the entries name after `@`, `+` or `-`, in the order of their first names,
+/// without segments.
 pub(crate) fn eras_named(alloc: Global, entries: &[Entry]) -> Result<Eras, NoMemory>
     ensures named { IfOk result (λ eras. keys eras ≡ spec.eras_named (map plain entries.now)) }
     ensures fresh { IfOk result (λ eras. AllStandFor eras []) }
@@ -60,7 +61,7 @@ fn name_one(alloc: Global, eras: &mut Eras, era: Option<u32>) -> Result<(), NoMe
     Ok(())
 }
 
-// Adds an era, unless it is there.
+// Adds an era, unless it is present.
 fn name(alloc: Global, eras: &mut Eras, era: u32) -> Result<(), NoMemory>
     ensures named { IfOk result (λ _. keys eras.new ≡ spec.noted (keys eras.old) era) }
     ensures fresh { IfOk result (λ _. AllStandFor eras.old [] → AllStandFor eras.new []) }

@@ -33,7 +33,8 @@ impl Block {
         }
     }
 
-    // Stores octets from an index on. Returns whether each is the first at its index or equals the one before.
+    // Stores octets from an index on. Returns whether each is the first at its index or equals the
+    // one before.
     fn put_run(&mut self, index: usize, octets: &[u8]) -> bool
         requires { index + length octets.now ≤ 256 }
         ensures right { result ≡ not (some_stray (octet_in self.old) None index octets.now) }
@@ -61,11 +62,13 @@ impl Block {
     }
 }
 
-/// The first octets at their offsets, in blocks. The number of a block is an offset in it plus 2^31, divided by 256.
+/// The first octets at their offsets, in blocks. The number of a block is an offset in it plus
+/// 2^31, divided by 256.
 #[derive(Drop)]
 pub(crate) struct Octets {
     alloc: Global,
-    // The numbers descend, so that a look-up compares the last block first, to which most octets go.
+    // The numbers descend, so that a look-up compares the last block first, to which most octets
+    // go.
     blocks: BTreeMap<Reverse<u64>, Box<Block>>,
 }
 
@@ -82,8 +85,8 @@ impl Octets {
         }
     }
 
-    /// Adds octets from an offset on. Returns whether none of them strays: none differs from the first one at its
-    /// offset, and none is at or past the end.
+    /// Adds octets from an offset on. Returns whether none of them strays: none differs from the
+    /// first one at its offset, and none is at or past the end.
     pub(crate) fn add(
         &mut self,
         place: Offset,
@@ -100,7 +103,8 @@ impl Octets {
         self.add_all(place, octets)
     }
 
-    // Adds octets from an offset on. Returns whether each is the first at its offset or equals the one before.
+    // Adds octets from an offset on. Returns whether each is the first at its offset or equals the
+    // one before.
     fn add_all(&mut self, place: Offset, octets: &[u8]) -> Result<bool, NoMemory>
         requires { place.raised + length octets.now < 2 ^ 64 }
         ensures right { IfOk result (λ right. right ≡ not (some_stray (kept_at self.old) None place.raised octets.now)) }
@@ -120,7 +124,8 @@ impl Octets {
         Ok(true)
     }
 
-    // Adds octets of one block. Returns whether each is the first at its offset or equals the one before.
+    // Adds octets of one block. Returns whether each is the first at its offset or equals the one
+    // before.
     fn add_run(&mut self, place: Offset, octets: &[u8]) -> Result<bool, NoMemory>
         requires { place.raised % 256 + length octets.now ≤ 256 }
         ensures right { IfOk result (λ right. right ≡ not (some_stray (kept_at self.old) None place.raised octets.now)) }

@@ -4,8 +4,8 @@ ghost use Rattle.run_audit.specs.Words.{asked};
 
 use norm_settings::number_within;
 
-/// Returns the number of routers behind the bridge, or None unless the words are two names that are not empty and a
-/// number of 1 to 3 digits, at most 254.
+/// Returns the number of routers behind the bridge, or None unless the words are two names that are
+/// not empty and a number of 1 to 3 digits, at most 254.
 pub(crate) fn hops_asked(words: &[String]) -> Option<u8>
     ensures { result ≡ asked (map string_bytes words.now) }
 {
