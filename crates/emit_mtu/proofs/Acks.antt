@@ -1,4 +1,5 @@
--- Packets that are cut stay near acks: the octets of a part are near the ack of its packet, and acks never go back.
+-- Packets that are cut stay near acks: the octets of a part are near the ack of its packet, and
+-- acks never go back.
 use Rattle.std.proofs.Common.{◌≡◌, ◌⊎◌, inl, inr, ⊎_elim, ℕ, zero, suc, ◌+◌, ◌-◌, ◌*◌, ◌^◌, ◌<◌, ◌≤◌, Some, List, [], ◌∷◌, ◌++◌, length, map, get_or, refl, sym, ap, subst, arith, ℤ, pos, ◌+ℤ◌, ◌≤ℤ◌, IsTrue, slice_get}
 use Rattle.std.specs.List.{range_with_len}
 use Rattle.std.proofs.lemmas.Int.{ints}
@@ -72,7 +73,7 @@ part_stays mtu ack place own_place packet own_packet stays part own says =
         let at : place +ℤ pos (length s.octets) ≡ own_place +ℤ pos (length piece.octets) = omega (arith, ints, there, size) in
         subst (λ z. (pos 0 ≤ℤ z) × (z ≤ℤ pos (ack + 2 ^ 30))) at (whole.fin ends.has)
 
--- so many parts of a packet from this index on
+-- this number of parts of a packet from this index on
 abbrev parts : (mtu : ℕ) (packet : List ℕ) (first n : ℕ) → List (List ℕ)
 parts mtu packet first n = map (spec.segment_of (room_in mtu packet) (parts_of Raw packet)) (range_with_len first n)
 
@@ -113,7 +114,7 @@ each_cut mtu (w ∷ ws) (z ∷ zs) (p ∷ ps) h =
     (each_kind (long_kind Raw mtu p) mtu w z p h.0.stays h.0.cut) (each_cut mtu ws zs ps h.1)
 each_cut mtu ws zs ps h = absurd h
 
--- an element of a list behind some others
+-- an element of a list that follows some others
 record Behind (n : ℕ) (xs : List ℕ) (k x : ℕ) : Type 0 where
   index : ℕ
   is : k ≡ n + index

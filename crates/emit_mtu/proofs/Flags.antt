@@ -1,4 +1,5 @@
--- The flags of a part: FIN and PSH are on the last part alone, CWR on the first, and they are legal if those of the segment are.
+-- The flags of a part: FIN and PSH are on the last part alone, CWR on the first, and they are legal
+-- if those of the segment are.
 use Rattle.std.proofs.Common.{◌≡◌, ℕ, ◌*◌, ◌/◌, ◌%◌, ◌==◌, ◌&&◌, ◌||◌, Bool, true, false, if◌then◌else◌, refl, sym, ap, ◌∙◌, arith}
 use Rattle.std.proofs.lemmas.Bool.Decides.{nat_tests}
 use Rattle.wire_base.specs.Tcp as tcp

@@ -18,7 +18,7 @@ use Rattle.emit_mtu.proofs.Frames.{are_sized, is_faultless, payload_is}
 
 -- Lists that begin with twenty numbers, as the headers of IPv4 and TCP do.
 
--- a property of all such lists written out holds of each such list
+-- a property of all such lists written out holds for each such list
 pub by_twenty :
     (P : List ℕ → Type 0) →
     ((a0 a1 a2 a3 a4 a5 a6 a7 a8 a9 a10 a11 a12 a13 a14 a15 a16 a17 a18 a19 : ℕ) (rest : List ℕ) → P (a0 ∷ a1 ∷ a2 ∷ a3 ∷ a4 ∷ a5 ∷ a6 ∷ a7 ∷ a8 ∷ a9 ∷ a10 ∷ a11 ∷ a12 ∷ a13 ∷ a14 ∷ a15 ∷ a16 ∷ a17 ∷ a18 ∷ a19 ∷ rest)) →
@@ -59,7 +59,8 @@ by_exactly_twenty P f xs e =
 
 -- The fields of the headers of a segment.
 
--- a packet has the fields of this IPv4 header, except its total length, its identification and its checksum
+-- a packet has the fields of this IPv4 header, except its total length, its identification and its
+-- checksum
 pub record SameHeader (p header : List ℕ) : Type 0 where
   pub version : ip.version p ≡ ip.version header
   pub header_length : ip.header_length p ≡ ip.header_length header
@@ -96,7 +97,7 @@ identification-own size index parts rest twenty =
 pub identification-front : (header rest : List ℕ) → length header ≡ 20 → ip.identification (header ++ rest) ≡ ip.identification header
 identification-front header rest twenty = by_exactly_twenty (λ xs. ip.identification (xs ++ rest) ≡ ip.identification xs) (λ a0 a1 a2 a3 a4 a5 a6 a7 a8 a9 a10 a11 a12 a13 a14 a15 a16 a17 a18 a19. refl) header twenty
 
--- the sum over the header is right
+-- the header's checksum is right
 pub sum-own : (size index : ℕ) (parts : Parts) → length parts.ip ≡ 20 → sum_is_right (spec.ip_header size index parts) 0 ≡ true
 sum-own size index parts twenty =
     by_exactly_twenty (λ xs. sum_is_right (spec.ip_header size index (record parts { ip = xs })) 0 ≡ true)
@@ -122,7 +123,8 @@ carried header m twenty words total =
       payload = (λ i. drop (words i) (take ((total ∙ sym size) i) (header ++ m))) ∙ ap (drop 20) (take-length (header ++ m)) ∙ drop_at header m 20 twenty;
     }
 
--- a segment has the fields of this TCP header, except its sequence number, its flags and its checksum
+-- a segment has the fields of this TCP header, except its sequence number, its flags and its
+-- checksum
 pub record SameSegment (m header : List ℕ) : Type 0 where
   pub source_port : tcp.source_port m ≡ tcp.source_port header
   pub destination_port : tcp.destination_port m ≡ tcp.destination_port header

@@ -1,4 +1,5 @@
--- Plain packets: the segments of one are plain, it may be written, and what is written instead of it is the same on each link.
+-- Plain packets: the segments of one are plain, it may be written, and what is written instead of
+-- it is the same on each link.
 use Rattle.std.proofs.Common.{◌≡◌, inl, inr, ℕ, ◌||◌, Bool, true, false, List, ◌++◌, length, sym, ap, ◌∙◌, arith, ◌-◌, ◌≤◌, ◌==◌, ◌&&◌, not, nat_lt, [], ◌∷◌, map, None, if◌then◌else◌, refl, eq-eqb, length-append}
 use Rattle.std.specs.List.{range_with_len}
 use Rattle.std.proofs.lemmas.Bool.Decides.{nat_tests}
@@ -29,7 +30,7 @@ use Rattle.emit_mtu.proofs.Frames.{not_one}
 
 -- The segments of a plain frame are plain.
 
--- the sums of a segment are right
+-- the checksums of a segment are right
 pub header_sum : (room index : ℕ) (parts : Parts) → AreSized parts → ip.header_length parts.ip ≡ 20 → sum_is_right (ip.header (packet_of room parts index)) 0 ≡ true
 header_sum room index parts sized words =
     ap (λ h. sum_is_right h 0) (is_own room index parts sized words).carried.header ∙ sum-own (length (spec.message_of room index parts)) index parts sized.ip

@@ -219,7 +219,8 @@ next-left room index parts some begins =
     let more : count_of room parts - index ≡ suc (count_of room parts - (index + 1)) = omega arith in
     ap (λ n. map (segment_of room parts) (range_with_len index n)) more
 
--- The frames that are written instead of a frame are not long, and segments are frames that may be written.
+-- The frames that are written instead of a frame are not long, and segments are frames that may be
+-- written.
 
 -- a frame that fits is not long
 fits : (long may : Bool) → (if long && may then Cut else if long && not may then Drop else Fits) ≡ Fits → long ≡ false

@@ -1,4 +1,5 @@
--- The frames that may be written, and their parts (RFC 791 section 3.1, RFC 894, RFC 9293 section 3.1).
+-- The frames that may be written, and their parts (RFC 791 section 3.1, RFC 894, RFC 9293 section
+-- 3.1).
 use Rattle.std.specs.Prelude.{◌≡◌, ℕ, ◌+◌, ◌^◌, ◌≤◌, ◌<◌, ◌⊎◌, false, List, [], length, take, drop, slice_index, None}
 use Rattle.wire_base.specs.declared.address.Link.{Link}
 use Rattle.wire_base.specs.declared.address.Link.TheVariants.{Ethernet, Raw}
@@ -16,7 +17,8 @@ abbrev pub link_size : Link → ℕ
 link_size Ethernet = MAX_LINK
 link_size Raw = 0
 
--- a packet that is no fragment, with a header of 20 octets and nothing after its total length, without a fault; the checksum of its segment is not tested
+-- a packet that is no fragment, with a header of 20 octets and nothing after its total length,
+-- without a fault; the checksum of its segment is not tested
 pub record IsWhole (packet : List ℕ) : Type 0 where
   pub header : ip.header_length packet ≡ 20
   pub whole : ip.is_fragment packet ≡ false
@@ -28,7 +30,8 @@ pub record IsWhole (packet : List ℕ) : Type 0 where
 abbrev pub IsSent : Link → (frame : List ℕ) → Type 0
 IsSent link frame = (kind_of link frame ≡ Arp) ⊎ ((kind_of link frame ≡ Ip (link_size link)) × IsWhole (packet_in link frame))
 
--- a frame that carries TCP: its link octets, its IPv4 header, its TCP header with the options, and its payload
+-- a frame that carries TCP: its link octets, its IPv4 header, its TCP header with the options, and
+-- its payload
 pub record Parts : Type 0 where
   pub link : List ℕ
   pub ip : List ℕ

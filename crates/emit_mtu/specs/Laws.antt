@@ -1,4 +1,5 @@
--- Laws of the segments of a frame (RFC 791 section 3.1, RFC 9293 sections 3.1 and 3.4, and this project's profile).
+-- Laws of the segments of a frame (RFC 791 section 3.1, RFC 9293 sections 3.1 and 3.4, and this
+-- project's profile).
 use Rattle.std.specs.Prelude.{◌≡◌, ℕ, ◌+◌, ◌-◌, ◌*◌, ◌%◌, ◌^◌, ◌≤◌, ◌<◌, ◌&&◌, nat_le, Bool, true, List, length, take, drop, Some, slice_get, All}
 use Rattle.std.specs.List.{flat_map}
 use Rattle.wire_base.specs.declared.address.Link.{Link}
@@ -21,7 +22,8 @@ pub record IsToBeCut (link : Link) (mtu : ℕ) (frame : List ℕ) : Type 0 where
   pub least : 576 ≤ mtu
   pub most : mtu < 2 ^ 16
 
--- FIN and PSH are kept only on the last part, CWR only on the first, and the other five flags on each
+-- FIN and PSH are kept only on the last part, CWR only on the first, and the other five flags on
+-- each
 pub record KeepsFlags (first last : Bool) (flags : ℕ) : Type 0 where
   pub fin : tcp.has_fin (flags_of first last flags) ≡ (last && tcp.has_fin flags)
   pub psh : tcp.has_psh (flags_of first last flags) ≡ (last && tcp.has_psh flags)
@@ -75,7 +77,7 @@ piece_of room index s =
       octets = take room (drop (room * index) s.octets);
     }
 
--- the fields and sums of one segment of a frame
+-- the fields and checksums of one segment of a frame
 pub record IsPiece (link : Link) (mtu index : ℕ) (frame segment : List ℕ) : Type 0 where
   pub link_octets : link_octets link segment ≡ link_octets link frame
   pub identification : ip.identification (packet_in link segment) ≡ (ip.identification (packet_in link frame) + index) % 2 ^ 16

@@ -1,4 +1,5 @@
--- Frames that are longer than the MTU of a link (this project's profile). The length is that of the IPv4 packet, so ARP is never long.
+-- Frames that are longer than the MTU of a link (this project's profile). The length is that of the
+-- IPv4 packet, so ARP is never long.
 use Rattle.std.specs.Prelude.{ℕ, ◌==◌, ◌&&◌, ◌||◌, nat_lt, not, Bool, true, false, List, length, if◌then◌else◌}
 use Rattle.wire_base.specs.declared.address.Link.{Link}
 use Rattle.wire_base.specs.declared.frame.FrameKind.{FrameKind}

@@ -1,5 +1,6 @@
--- The segments that a TCP frame is cut into (this project's profile, over RFC 791 section 3.1 and RFC 9293 section 3.1). `room` is the number of payload octets
--- of each segment except the last, and segments are counted from 0.
+-- The segments that a TCP frame is cut into (this project's profile, over RFC 791 section 3.1 and
+-- RFC 9293 section 3.1). Segments are counted from 0; each except the last has `room` octets of
+-- payload.
 use Rattle.std.specs.Prelude.{ℕ, ◌+◌, ◌-◌, ◌*◌, ◌/◌, ◌%◌, ◌^◌, ◌==◌, ◌&&◌, ◌<◌, ◌≤◌, nat_le, min, not, Bool, List, ◌++◌, length, map, take, drop, slice_set, if◌then◌else◌}
 use Rattle.std.specs.List.{range_with_len}
 use Rattle.wire_base.specs.declared.address.Link.{Link}
@@ -33,11 +34,13 @@ is_last room index parts = nat_le (length parts.payload) (room * (index + 1))
 abbrev pub lost : (weight flags : ℕ) → (kept : Bool) → ℕ
 lost weight flags kept = if tcp.has_flag weight flags && not kept then weight else 0
 
--- FIN (1) and PSH (8) are kept only on the last part, CWR (128) only on the first, all others on each
+-- FIN (1) and PSH (8) are kept only on the last part, CWR (128) only on the first, all others on
+-- each
 abbrev pub flags_of : (first last : Bool) → (flags : ℕ) → ℕ
 flags_of first last flags = flags - (lost 1 flags last + lost 8 flags last + lost 128 flags first)
 
--- the IPv4 header before a segment of `size` octets: its total length, its identification, plus `index` modulo 2^16, and its right checksum are its own
+-- the IPv4 header before a segment of `size` octets: its total length, its identification, plus
+-- `index` modulo 2^16, and its right checksum are its own
 abbrev pub ip_fields : (size index : ℕ) → Parts → List ℕ
 ip_fields size index parts =
     with_u16 (with_u16 (with_u16 parts.ip 2 (length parts.ip + size)) 4 ((ip.identification parts.ip + index) % 2 ^ 16)) 10 0
@@ -45,7 +48,8 @@ ip_fields size index parts =
 abbrev pub ip_header : (size index : ℕ) → Parts → List ℕ
 ip_header size index parts = with_u16 (ip_fields size index parts) 10 (checksum_for (word_sum (ip_fields size index parts)))
 
--- the TCP header with its options: its sequence number, plus the octets before the part modulo 2^32, and its flags are its own
+-- the TCP header with its options: its sequence number, plus the octets before the part modulo
+-- 2^32, and its flags are its own
 abbrev pub tcp_header : (room index : ℕ) → Parts → List ℕ
 tcp_header room index parts =
     slice_set (with_u32 parts.tcp 4 ((tcp.sequence parts.tcp + room * index) % 2 ^ 32)) 13 (flags_of (is_first index) (is_last room index parts) (tcp.flags parts.tcp))

@@ -1,4 +1,5 @@
--- The frames that are written instead of a frame, and the offsets of their octets in a stream (this project's profile).
+-- The frames that are written instead of a frame, and the offsets of their octets in a stream (this
+-- project's profile).
 use Rattle.std.specs.Prelude.{◌≡◌, ℕ, ◌*◌, ◌^◌, ◌≤◌, ◌<◌, List, [], ◌∷◌, ◌++◌, map, ℤ, pos, ◌+ℤ◌, All, false, None, Option}
 use Rattle.std.specs.List.{flat_map, range_with_len}
 use Rattle.wire_base.specs.declared.address.Link.{Link}
@@ -52,7 +53,8 @@ PlainIsSent = (link : Link) (hops : ℕ) (frame : List ℕ) → kind_of link fra
 abbrev pub packets_for : (mtu : ℕ) → (packets : List (List ℕ)) → List (List ℕ)
 packets_for mtu packets = flat_map (frames_for Raw mtu) packets
 
--- the offset in the stream of the first octet of each packet that is written instead of one whose first octet is at `place`
+-- the offset in the stream of the first octet of each packet that is written instead of one whose
+-- first octet is at `place`
 abbrev pub places_of : LongKind → (mtu : ℕ) → (packet : List ℕ) → (place : ℤ) → List ℤ
 places_of Fits mtu packet place = place ∷ []
 places_of Cut mtu packet place =
@@ -85,7 +87,8 @@ acks_for mtu [] packets = []
 acks_for mtu (ack ∷ acks) [] = []
 acks_for mtu (ack ∷ acks) (packet ∷ packets) = map (λ _. ack) (frames_for Raw mtu packet) ++ acks_for mtu acks packets
 
--- packets of one stream that stay near what was acknowledged still do so after the long ones are cut or dropped
+-- packets of one stream that stay near what was acknowledged still do so after the long ones are
+-- cut or dropped
 abbrev pub CutStaysNearAcks : Type 0
 CutStaysNearAcks =
     (hops base mtu : ℕ) (acks : List ℕ) (places : List ℤ) (packets : List (List ℕ)) → 576 ≤ mtu → mtu < 2 ^ 16 → All AreOctets packets → TellOneStream hops base places packets

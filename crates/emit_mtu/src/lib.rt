@@ -2,10 +2,10 @@
 //! project's profile).
 //!
 //! Proved: `long_kind` returns exactly by E_CUT and E_MTU whether a frame fits, is cut, or is
-//! dropped. `Cutter` returns exactly the segments of the definition, one a call. Laws on a frame
+//! dropped. `Cutter` returns exactly the segments of the definition, one per call. Laws on a frame
 //! that is cut: none of its segments is long, they are at most 132, and they carry the payload in
-//! order and once; each is read as its part, with its own sequence number and flags, and is plain
-//! if the frame is; packets that describe one stream still do so after the cuts, are still of it,
+//! order and once. Each is read as its part, with its own sequence number and flags, and is plain
+//! if the frame is. Packets that describe one stream still do so after the cuts, are still of it,
 //! and stay near what was acknowledged if they did. Nothing long is written.
 #![tactic(auto)]
 
@@ -14,8 +14,6 @@ pub mod laws;
 pub mod long;
 mod parts;
 mod piece;
-#[cfg(test)]
-mod tests;
 
 pub use cutter::Cutter;
 pub use long::{LongKind, long_kind};

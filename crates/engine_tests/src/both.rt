@@ -194,8 +194,8 @@ fn relay_each(both: &mut Both, before: &[Row], rows: &[Row], out: &mut Outbox) -
     right
 }
 
-/// Returns whether two engines give the expected entries for the packets of a run. It does no more
-/// with them, since a function that owns an engine is slow to prove.
+/// Returns whether two engines give the expected entries for the packets of a run. It only calls
+/// them, since a function that owns an engine is slow to prove.
 fn is_relayed(alloc: Global, run: &Run) -> Result<bool, NoMemory> {
     let mut out = Outbox::open(alloc)?;
     let mut both = Both::open(alloc, settings(STANDARD))?;
@@ -224,7 +224,7 @@ struct Run {
 const RUNS: &[Run] = &[
     // An open connection passes both engines.
     Run { link: Link::Raw, before: &OPENED, rows: &[] },
-    // Octets that are sent outwards again are mended.
+    // Octets that are sent outwards again are rewritten.
     Run { link: Link::Raw, before: &OPENED, rows: &CLASHED },
     // What goes inwards passes the second engine.
     Run { link: Link::Raw, before: &OPENED, rows: &INWARDS },

@@ -95,8 +95,8 @@ fn judges(engine: &mut Engine, out: &mut Outbox, row: &Row) -> bool {
     }
 }
 
-// This function and the two like it below do no more with their engines, since a function that owns
-// one is slow to prove.
+// Only calls its engine, as the two functions like it below do, since a function that owns one is
+// slow to prove.
 fn is_judged(alloc: Global, row: &Row) -> Result<bool, NoMemory> {
     let mut out = Outbox::open(alloc)?;
     let chosen = Chosen {
@@ -107,7 +107,7 @@ fn is_judged(alloc: Global, row: &Row) -> Result<bool, NoMemory> {
     Ok(judges(&mut engine, &mut out, row))
 }
 
-/// Returns the index of the first case that is judged otherwise.
+/// Returns the index of the first case with another result.
 fn first_other(alloc: Global, rows: &[Row]) -> Result<Option<usize>, NoMemory> {
     for (index, row) in rows.iter().enumerate() {
         if !is_judged(alloc, row)? {

@@ -22,9 +22,9 @@ const RAW: Head = Head {
     link: Link::Raw,
 };
 
-/// Five packets, which one engine relays or two, to sinks of which the call with the given number
-/// fails, 0 for none. The number of frames written for the last packet, or the first fault; the
-/// octets written, in parts.
+/// Five packets, which one engine relays or two, to sinks whose call with the given number fails, 0
+/// for none. The number of frames written for the last packet, or the first fault; the octets
+/// written, in parts.
 struct Row {
     both: bool,
     packets: [&'static [u8]; 5],
@@ -69,7 +69,7 @@ fn give_all(
     give(relay, fifth, capture, report)
 }
 
-// The only function that owns a relay, since a function that owns one is slow to prove.
+// Owns the relay, which no other function does, since a function that owns one is slow to prove.
 fn answer_to(
     alloc: Global,
     row: &Row,
@@ -85,7 +85,7 @@ fn answer_to(
     Ok(answer)
 }
 
-/// Returns a sink of which the call with this number fails; 0 is none.
+/// Returns a sink whose call with this number fails; 0 is none.
 fn sink(alloc: Global, failing: u32) -> Result<MemSink, NoMemory> {
     let mut calls = Vec::new(alloc);
     if failing > 0 {
@@ -133,8 +133,8 @@ const CLASH: Row = Row {
     ],
 };
 
-/// The lines of two engines of a reset of no connection and of the opening of one; the second engine
-/// counts frames.
+/// The lines of two engines of a reset of no connection and of the opening of one; the second
+/// engine counts frames.
 const LINES: &[u8] =
     b"1 in drop 0 T_COLD\n2 in pass 1 @1 +1\n/1 out pass 1 @1 +1\n3 out pass 1 @1\n/2 in pass 1 @1\n4 in pass 1 @1\n/3 out pass 1 @1\n";
 
@@ -188,7 +188,7 @@ const ROWS: &[Row] = &[
     },
 ];
 
-/// Returns the index of the first case that is relayed otherwise.
+/// Returns the index of the first case with another result.
 fn first_other(alloc: Global, rows: &[Row]) -> Result<Option<usize>, NoMemory> {
     for (index, row) in rows.iter().enumerate() {
         if !is_relayed(alloc, row)? {

@@ -73,7 +73,7 @@ not_given waiting start stream = record { more = []; joined = sym (append-nil st
 same : (base start : ℕ) (s : Option Segment) (r : Receiver) → Step base start s r r
 same base start s r = record { octets = λ offset. inl refl; fin = inl refl; stream = not_given r.waiting start r.stream; ended = inl refl }
 
--- one whose next offset is 2 loses nothing so
+-- one whose next offset is 2 loses nothing in this way
 passed : (frame : List ℕ) (a b start : ℕ) (r : Receiver) → segment_of frame ≡ Some (said a b) → start + length r.stream ≡ 2 → HasDeliveredAll start r
     → TakesAndDelivers 0 1001 start frame r r
 passed frame a b start r says next gives =
@@ -224,7 +224,7 @@ withheld = (
             by (suc zero) less there = absurd (let wrong : Some 99 ≡ None = sym (ap (two_wait 98 99) there) ∙ none in cc)
             by (suc (suc n)) less there = absurd (omega (arith, less))
 
--- the third starts behind the octets
+-- the third starts after the octets
 starts_behind : TakesInOrder 0 1001 2 frames beginning beginning
 starts_behind = (
   beginning,

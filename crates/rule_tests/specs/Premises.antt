@@ -6,7 +6,8 @@ use Rattle.receiver_model.specs.Delivery.{Receiver, Reads, Step, Delivers, begin
 use Rattle.receiver_model.specs.Agreement.{IsMember, TellOneStream}
 use Rattle.receiver_model.specs.Monitors.{Keeps, HasDeliveredAll, MonitorsInOrder, Covers, CoversEach, StayNearAcks}
 
--- this holds of all frames that describe one stream and whose octets and FINs are near what was acknowledged before them
+-- this holds for all frames that describe one stream and whose octets and FINs are near what was
+-- acknowledged before them
 abbrev pub OfOneStream : ((hops base : ℕ) (places : List ℤ) (frames : List (List ℕ)) → Type 0) → Type 0
 OfOneStream Holds =
     (hops base : ℕ) (acks : List ℕ) (places : List ℤ) (frames : List (List ℕ)) →

@@ -16,8 +16,8 @@ const UDP: [u8; 11] = [
     0x9c, 0x40, 0x00, 0x35, 0x00, 0x0a, 0xc6, 0xbf, 0x68, 0x69, 0x00,
 ];
 
-/// An echo message (RFC 792) of nine octets; its sum is right with the last octet as the high octet
-/// of its word.
+/// An echo message (RFC 792) of nine octets; its checksum is right with the last octet as the high
+/// octet of its word.
 const ECHO: [u8; 9] = [0x08, 0x00, 0x4c, 0xfd, 0x00, 0x01, 0x00, 0x01, 0xab];
 
 /// A message of zeros.

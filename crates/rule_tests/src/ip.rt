@@ -42,7 +42,7 @@ const CUT: [u8; 13] = [2, 0, 0, 0, 0, 1, 2, 0, 0, 0, 0, 2, 0x08];
 const RAW: &[u8] = &[];
 
 /// A case: the octets before the packet (none on a raw link); the packet, the octets changed in it,
-/// and its number of octets; the number of octets of the frame that were not captured; and the
+/// and its number of octets. Also the number of octets of the frame that were not captured, and the
 /// result, with the length of the payload. The prefix is 10.0.0.0/8, and `hops` is 30.
 struct Row {
     front: &'static [u8],
@@ -222,8 +222,8 @@ fn each_row_holds_of_its_packet_and_not_of_its_neighbour(rt: HostRuntime) -> Res
     Ok(())
 }
 
-/// Records with a side of their own: the addresses give the other side, or none because both are
-/// trusted or neither is; an invalid source.
+/// Records with their own side: the addresses give the other side, or none because both are trusted
+/// or neither is; an invalid source.
 #[rattlefmt::skip]
 const GIVEN: &[(Side, Row)] = &[
     (Side::Outward, Row { front: RAW, packet: &DATAGRAM, changes: &[(8, 0x1e), (10, 0x68)], size: 30, missing: 0, says: "out whole 10" }),

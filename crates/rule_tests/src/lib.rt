@@ -1,7 +1,9 @@
-//! Tests of the rules on one packet, of the receivers, and of the records of a load; and worked
-//! packets that show which premises a monitor needs.
+//! Tests of the rules on one packet, of frames that are cut, of the receivers, and of the records
+//! of a load; and worked packets that show which premises a monitor needs.
 #![tactic(auto)]
 
+#[cfg(test)]
+mod cuts;
 #[cfg(test)]
 mod datagrams;
 #[cfg(test)]

@@ -97,7 +97,7 @@ fn a_plain_packet_has_no_mark(rt: HostRuntime) {
 }
 
 // A SYN, and one with an octet; a RST with an octet; a segment size on a SYN, and on a segment that
-// is no SYN; an octet after the end option; an option of IP; UDP with a right checksum, none and a
+// is no SYN. An octet after the end option; an option of IP. UDP with a right checksum, none and a
 // wrong one; an echo request with a right and a wrong checksum.
 const MESSAGES: [(&[u8], bool); 12] = [
     (
@@ -260,7 +260,7 @@ fn follow(
     Ok(())
 }
 
-/// Does so with a new stream.
+/// Does the same with a new stream.
 fn deliver(
     rt: &impl Abort,
     alloc: Global,

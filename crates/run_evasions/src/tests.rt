@@ -1,4 +1,0 @@
-//! Whole runs, with expected octets from the formats' standards and the worked captures.
-
-mod evasions;
-mod fragments;
