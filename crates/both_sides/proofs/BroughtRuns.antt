@@ -1,4 +1,5 @@
--- Nothing is invented in a run, each clash in its lines is real, and receivers read what records brought.
+-- Nothing is invented in a run, each clash in its lines is real, and receivers read what records
+-- brought.
 use Rattle.std.proofs.Common.{◌≡◌, ℕ, ◌||◌, Bool, true, false, List, [], ◌∷◌, ◌++◌, map, Option, Some, None, refl, sym, ap, subst, ◌∙◌, append_assoc}
 use Rattle.std.specs.List.{AllByRecursion, list_any}
 use Rattle.wire_base.specs.declared.address.Link.{Link}

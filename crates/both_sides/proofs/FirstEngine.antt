@@ -1,4 +1,5 @@
--- What the first engine writes for a record that goes inwards, plain packets or ARP, and the second engine's items for it.
+-- What the first engine writes for a record that goes inwards, plain packets or ARP, and the second
+-- engine's items for it.
 use Rattle.std.proofs.Common.{◌≡◌, ℕ, true, false, not, List, ◌∷◌, length, take, drop, map, is_none, refl, ap, subst, ◌∙◌, ◌+◌, ◌≤◌, inl, inr, ◌&&◌, ◌==◌, nat_le, Bool, ◌++◌, Option, Some, None, find, sym, [], zero, suc}
 use Rattle.std.specs.List.{AllByRecursion, list_any}
 use Rattle.wire_base.specs.declared.address.Link.{Link}
@@ -133,7 +134,8 @@ pub goes_through : (settings : PlainSettings) (link : Link) (trace mirror : List
     → Lawful (mirrored settings) link mirror → CleanIsKept (mirrored settings) link mirror → packets mirror ≡ records_of trace → InwardGoesThrough trace mirror
 goes_through settings link trace mirror upright relays lawful clean same = through settings link trace mirror relays (all_go settings link mirror upright lawful clean) same
 
--- The frames that the first engine writes for a record that does not go outwards: plain packets, whose addresses and kind of message no rule drops, or ARP.
+-- The frames that the first engine writes for a record that does not go outwards: plain packets,
+-- whose addresses and kind of message no rule drops, or ARP.
 
 -- if no rule rewrites it, its frame is the record's
 same_frame : (settings : PlainSettings) (link : Link) (calls : List reassembly.Call) (r : records.Packet) (d : Datagram) → datagram_by settings link calls r ≡ Some d → d.fixes ≡ []

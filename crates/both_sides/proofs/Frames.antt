@@ -1,4 +1,5 @@
--- The frames written of a lawful trace: all without an MTU; under one few, none too long, and the payload of clean records.
+-- The frames written for a lawful trace: all frames without an MTU; with an MTU few for each
+-- record, none too long, and the payload of clean records.
 use Rattle.std.proofs.Common.{◌≡◌, ℕ, ◌+◌, ◌<◌, ◌≤◌, ◌==◌, ◌&&◌, not, nat_lt, Bool, true, false, cond, All, List, ◌∷◌, ◌++◌, length, map, drop, get_or, suc, Option, Some, None, refl, sym, ap, subst, ◌∙◌, arith, append-nil, IfSome, length-append, [], inl, inr}
 use Rattle.std.specs.List.{AllByRecursion, flat_map, list_any}
 use Rattle.std.proofs.lemmas.Bool.Decides.{nat_tests}
@@ -106,7 +107,7 @@ pub all_sent : PlainHeadersAreWhole → (link : Link) (frames : List (List ℕ))
 all_sent whole link [] each = All-nil (IsSent link)
 all_sent whole link (frame ∷ frames) each = All-cons (IsSent link) frame frames (sent_of whole link frame each.0) (all_sent whole link frames each.1)
 
--- the first of a list of which all satisfy `P`, and the others
+-- the first element of a list whose elements satisfy `P`, and the others
 first : {X : Type 0} (P : X → Type 0) (x : X) (xs : List X) → All P (x ∷ xs) → P x
 first P x xs all = all 0 x (omega arith)
 
@@ -277,7 +278,8 @@ clean_written carry whole settings link (item ∷ older) range each octets kept 
   λ clean. writes_payload carry settings.mtu link item range (all_sent whole link item.frames each.0.each) octets.0 (kept.1 clean),
 )
 
--- The frames that are written of a lawful trace: none is too long for a capture, and those written inwards are plain.
+-- The frames that are written of a lawful trace: none is too long for a capture, and those written
+-- inwards are plain.
 
 -- a frame with an MTU in its range, which may be written
 record MayBeCut (link : Link) (mtu : ℕ) (frame : List ℕ) : Type 0 where
@@ -297,7 +299,7 @@ may_all link mtu (frame ∷ frames) range sent octets = (
   may_all link mtu frames range (λ k d l. sent (suc k) d (omega (arith, l))) (λ k d l. octets (suc k) d (omega (arith, l))),
 )
 
--- what holds of the frames that are written for each frame holds of all
+-- what holds for the frames that are written for each frame holds for all
 each_for : (P : List ℕ → Type 0) (Q : List ℕ → Type 0) (link : Link) (mtu : ℕ) → ((frame : List ℕ) → MayBeCut link mtu frame → Q frame → AllByRecursion P (frames_for link mtu frame))
     → (frames : List (List ℕ)) → AllByRecursion (MayBeCut link mtu) frames → AllByRecursion Q frames → AllByRecursion P (flat_map (frames_for link mtu) frames)
 each_for P Q link mtu one [] may all = tt

@@ -1,4 +1,5 @@
--- What is given to the outputs for a record: its frames, the segments of those that are cut, and a prefix where one failed.
+-- What is given to the outputs for a record: its frames, the segments of those that are cut, and a
+-- prefix where one failed.
 use Rattle.std.proofs.Common.{◌≡◌, ℕ, ◌<◌, true, false, List, [], ◌∷◌, ◌++◌, length, Option, Result, Ok, Err, OnErr, refl, sym, subst, append-nil, ◌+◌, take, drop, take-append-drop, slice_get, Some, ap, ◌∙◌, arith, add-one, ◌≤◌, ◌&&◌, ◌||◌, not, Bool, cond, All, ap₂, append_assoc, None, OnOk, is_err, length-append}
 use Rattle.std.proofs.KnownBytes.{Appends-nil, Appends-trans}
 use Rattle.std.specs.Io.KnownBytes.{Appends}
@@ -166,7 +167,7 @@ pub record CutSoFar (order : Order) (r : Packet) (all left : List (List ℕ)) (c
   pub counted : count ≡ length done
   pub octets : Appends before now (frame_octets order r done)
 
--- an element of a list of which all satisfy `P`
+-- an element of a list whose elements satisfy `P`
 pub at : {X : Type 0} (P : X → Type 0) (xs : List X) (i : ℕ) (x : X) → All P xs → slice_get xs i ≡ Some x → P x
 at P xs i x all here = subst P (get_or_from_slice_get xs i x x here) (all i x (slice_get_within xs i x here))
 

@@ -1,4 +1,5 @@
--- A run by one engine that changes nothing inwards was read as it was recorded, and eras of a run are read as one if one goes on past the other.
+-- A run by one engine that changes nothing inwards was read as it was recorded, and eras of a run
+-- are read as one if one goes on past the other.
 use Rattle.std.proofs.Common.{sym, subst}
 use Rattle.norm_engine.specs.Recorded.{LawfulWasReadSo, UnchangedWasReadSo}
 use Rattle.norm_engine.specs.TwoEras.{ErasGoOn, LawfulErasGoOn}

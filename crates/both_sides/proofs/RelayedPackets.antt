@@ -1,4 +1,5 @@
--- Packets that the first engine writes inwards, segments and messages, are plain, and pass the second's rules on addresses.
+-- Packets that the first engine writes inwards, segments and messages, are plain, and pass the
+-- second's rules on addresses.
 use Rattle.std.proofs.Common.{◌≡◌, ℕ, ◌+◌, ◌≤◌, inl, ◌&&◌, ◌||◌, true, false, List, ◌++◌, Option, Some, None, is_none, refl, sym, ap, ap₂, ◌∙◌, subst, arith, append_assoc, [], ◌∷◌}
 use Rattle.std.specs.List.{AllByRecursion}
 use Rattle.wire_base.specs.declared.address.Link.{Link}

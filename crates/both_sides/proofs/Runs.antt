@@ -1,4 +1,5 @@
--- A run by one engine or two: what they represent after each record, whose trace the outputs are, and that records have one run.
+-- A run by one engine or two: what they represent after each record, whose trace the outputs are,
+-- and that records have one run.
 use Rattle.std.proofs.Common.{◌≡◌, ℕ, ◌+◌, Bool, true, false, List, [], ◌∷◌, ◌++◌, length, take, drop, refl, sym, ap, ap₂, subst, ◌∙◌, arith, append_assoc, Option, Result, map, suc, append-nil, flat_map}
 use Rattle.std.proofs.Math.Seq.{drop-append_seam}
 use Rattle.std.proofs.lemmas.List.{length-append, length-map, take_at}
@@ -144,7 +145,7 @@ can_read engine mtu link same ready (two trace mirror) stands octets = absurd st
 
 module _ (order : Order) (engine new : Engaged) (r : Packet) (result : Result ℕ RelayFault) (before now : Sinks)
     (read : (history : List Item) → single.StandsFor engine history → HasRead order engine new history r result before now) where
-  -- what is written is the output in each run
+  -- each run writes its output
   pub written_one : (run : RunTrace) → StandsForRun (One engine) run → IsWritten order (next_put engine.settings engine.link run r) result before now
   written_one (one trace) s = (read trace s).written
   written_one (two trace mirror) s = absurd s

@@ -1,4 +1,5 @@
--- No rule of the second engine drops or changes a plain packet that the first passed inwards, or a frame of ARP.
+-- No rule of the second engine drops or changes a plain packet that the first passed inwards, or a
+-- frame of ARP.
 use Rattle.std.proofs.Common.{◌≡◌, ℕ, ◌&&◌, ◌||◌, ◌==◌, not, Bool, true, false, cond, List, [], ◌∷◌, Option, Some, None, find, filter, refl, sym, ap, ◌∙◌, ◌⊎◌, inl, inr, nat_lt, nat_le, ◌++◌, length, take, drop, is_none, ap₂, subst, eq-eqb, le-ltb, eqb-true, option_map}
 use Rattle.std.specs.List.{AllByRecursion}
 use Rattle.std.specs.Option.{option_or}
@@ -58,9 +59,11 @@ pub not_named : {X : Type 0} (test : X → Bool) (xs : List X) → AllByRecursio
 not_named test [] all = refl
 not_named test (x ∷ xs) all = ap (λ b. cond b (x ∷ filter test xs) (filter test xs)) all.0 ∙ not_named test xs all.1
 
--- No rule of the second engine drops or changes a plain packet that the first passed inwards, or a frame of ARP.
+-- No rule of the second engine drops or changes a plain packet that the first passed inwards, or a
+-- frame of ARP.
 
--- a frame that the first engine writes inwards: a plain packet, whose addresses and kind of message no rule drops
+-- a frame that the first engine writes inwards: a plain packet, whose addresses and kind of message
+-- no rule drops
 pub record IsRelayed (settings : PlainSettings) (link : Link) (frame : List ℕ) : Type 0 where
   pub long : l_short link frame ≡ false
   pub carries : carries_ip link frame ≡ true
@@ -217,7 +220,7 @@ module _ (settings : PlainSettings) (link : Link) (seconds fraction : ℕ) (fram
   carries : datagram_in s link r ≡ Some d
   carries = λ i. cond (is_none (undropped i) && (is.carries i && not (part i))) (option_map (datagram_of p (unmended i)) (told i)) None
 
-  -- no rule on UDP, ICMP and the header of a segment holds of it
+  -- no rule on UDP, ICMP and the header of a segment holds for it
   udp_sum : ip.protocol p ≡ 17 → has_wrong_sum d ≡ false
   udp_sum seventeen = by (is.plain.message.udp seventeen).sum
     where

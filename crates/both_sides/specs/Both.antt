@@ -8,14 +8,16 @@ use Rattle.norm_engine.specs.Engine.{Engaged}
 use Rattle.norm_engine.specs.Engine as engine
 use Rattle.both_sides.specs.Traces.{mirrored, record_of, behind, records_of}
 
--- both engines as contracts see them, and the records of the frames that the second has not read yet, the next one at the head
+-- both engines as contracts see them, and the records of the frames that the second has not read
+-- yet, the next one at the head
 pub record Joined : Type 0 where
   pub first : Engaged
   pub second : Engaged
   pub pending : List Packet
 
--- The engines represent a pair of traces: each its own; the second has the settings and the link type of the first, with exchanged sides; and its trace is the
--- lawful one of the other's frames, except those that it has not read yet.
+-- The engines represent a pair of traces, each its own. The second has the settings and the link
+-- type of the first, with exchanged sides. Its trace is the lawful one of the other's frames,
+-- except those that it has not read yet.
 pub record StandsFor (both : Joined) (trace mirror : List Item) : Type 0 where
   pub first : engine.StandsFor both.first trace
   pub second : engine.StandsFor both.second mirror
@@ -31,12 +33,13 @@ pub record StandsForSome (both : Joined) : Type 0 where
   pub mirror : List Item
   pub stands : StandsFor both trace mirror
 
--- bounds on the number of records: the second engine reads at most two for each of the first, whose number has room for twice as many
+-- bounds on the number of records: the second engine reads at most two for each of the first, whose
+-- number has room for twice as many
 pub record IsWithin (both : Joined) : Type 0 where
   pub records : both.first.records < 2 ^ 31
   pub frames : both.second.records + length both.pending ≤ 2 * both.first.records
 
--- both engines with the frames of a record with this time, of which the second engine has read `had`
+-- both engines with the frames of a record with this time; the second engine has read `had` of them
 abbrev pub joined : (first second : Engaged) (seconds fraction : ℕ) (frames : List (List ℕ)) (had : ℕ) → Joined
 joined first second seconds fraction frames had =
     record { first = first; second = second; pending = map (record_of seconds fraction) (drop had frames) }

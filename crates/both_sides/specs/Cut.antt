@@ -1,5 +1,6 @@
--- What is written with an MTU of the next link: the lawful trace, with each frame replaced by the frames written instead, and with its entries changed
--- accordingly (this project's profile). Without an MTU it is the lawful trace itself.
+-- What is written with an MTU of the next link: the lawful trace, with each frame replaced by the
+-- frames written instead, and with its entries changed accordingly (this project's profile).
+-- Without an MTU it is the lawful trace itself.
 use Rattle.std.specs.Prelude.{◌≡◌, ℕ, ℤ, Bool, true, false, List, [], ◌∷◌, ◌++◌, ◌≤◌, ◌<◌, length, map, All, Option, Some, None, IfSome, if◌then◌else◌}
 use Rattle.std.specs.List.{AllByRecursion, flat_map, list_any}
 use Rattle.wire_base.specs.declared.address.Link.{Link}
@@ -50,7 +51,7 @@ rules_cut cut kept_back = (if cut then rules.ECut ∷ [] else []) ++ (if kept_ba
 abbrev pub verdict_cut : (cut kept_back : Bool) → Verdict → Verdict
 verdict_cut cut kept_back verdict = if kept_back then verdicts.Drop else if cut then verdicts.Fix else verdict
 
--- the entry of an item of which some frames are cut, or dropped, and `packets` are written
+-- the entry of an item with frames that are cut or dropped; `packets` are written
 abbrev pub entry_cut : (cut kept_back : Bool) → (packets : ℕ) → PlainEntry → PlainEntry
 entry_cut cut kept_back packets entry =
     record entry { verdict = verdict_cut cut kept_back entry.verdict; packets = packets; rules = entry.rules ++ rules_cut cut kept_back }
@@ -79,13 +80,14 @@ is_of_cuts rules.ECut = true
 is_of_cuts rules.EMtu = true
 is_of_cuts _ = false
 
--- If the written entry names neither rule, exactly one frame is written, with the record's payload, and octet for octet if the verdict is pass. If a frame is
--- cut, its segments carry the record's payload after their headers, in order and once.
+-- If the written entry names neither rule, exactly one frame is written, with the record's payload,
+-- and octet for octet if the verdict is pass. If a frame is cut, its segments carry the record's
+-- payload after their headers, in order and once.
 pub record WritesPayload (mtu : Option ℕ) (link : Link) (item : Item) : Type 0 where
   pub kept : list_any is_of_cuts (item_written mtu link item).entry.rules ≡ false → KeepsPayload link (item_written mtu link item)
   pub cut : cuts_some mtu link item.frames ≡ true → flat_map (cuts.payload_in link) (item_written mtu link item).frames ≡ payload_in link item.packet.octets
 
--- this holds of each clean record of the trace
+-- this holds for each clean record of the trace
 abbrev pub CleanIsWritten : PlainSettings → Link → List Item → Type 0
 CleanIsWritten settings link [] = Unit {0}
 CleanIsWritten settings link (item ∷ older) =
@@ -96,18 +98,21 @@ abbrev pub places_written : (mtu : Option ℕ) → (places : List ℤ) → (pack
 places_written None places packets = places
 places_written (Some mtu) places packets = places_for mtu places packets
 
--- In each era whose base is fixed, the packets that are written inwards are plain, their SYNs have the number before the base, and any two receivers of the
--- family behind at most `hops` routers that start at the same offset deliver streams of which one is a prefix of the other, and one that has ended is not the
--- shorter, whichever packets reach them in time, how often and in which order. An era without a base has no octet, no SYN and no FIN inwards. The base, whether
--- it is fixed, and the offsets are those of the lawful trace.
+-- In each era whose base is fixed, the packets that are written inwards are plain, and their SYNs
+-- have the number before the base. Any two receivers of the family behind at most `hops` routers
+-- that start at the same offset agree: one stream is a prefix of the other, and one that has ended
+-- is not the shorter. It does not matter which packets reach them in time, how often and in which
+-- order. An era without a base has no octet, no SYN and no FIN inwards. The base, whether it is
+-- fixed, and the offsets are those of the lawful trace.
 abbrev pub AgreeAsWritten : PlainSettings → Link → List Item → Type 0
 AgreeAsWritten settings link trace =
     (era : ℕ) → let sent = sent_in link trace in
     EraIsSound settings.hops (base_of (written_in era sent)) (λ base. places_written settings.mtu (inward_places era base sent) (inward_packets era sent))
     (inward_packets era (sent_in link (written settings link trace)))
 
--- In each era whose base is fixed, any receiver, from whichever offset it starts, reads a part of one stream of the packets that are written inwards. The
--- base, the offsets, the octets and the end of that stream are those of the lawful trace.
+-- In each era whose base is fixed, any receiver, from whichever offset it starts, reads a part of
+-- one stream of the packets that are written inwards. The base, the offsets, the octets and the end
+-- of that stream are those of the lawful trace.
 abbrev pub ReadsOneStreamAsWritten : PlainSettings → Link → List Item → Type 0
 ReadsOneStreamAsWritten settings link trace =
     (era base : ℕ) → let sent = sent_in link trace in let ws = written_in era sent in
@@ -115,7 +120,8 @@ ReadsOneStreamAsWritten settings link trace =
     EachReadsPart settings.hops base (places_written settings.mtu (inward_places era base sent) (inward_packets era sent))
     (inward_packets era (sent_in link (written settings link trace))) (first base ws) (end_of base ws)
 
--- In each era whose base is fixed, a monitor misses nothing of the packets that are written inwards. The base and the offsets are those of the lawful trace.
+-- In each era whose base is fixed, a monitor misses nothing of the packets that are written
+-- inwards. The base and the offsets are those of the lawful trace.
 abbrev pub MissesNothingAsWritten : PlainSettings → Link → List Item → Type 0
 MissesNothingAsWritten settings link trace =
     (era base : ℕ) → let sent = sent_in link trace in
@@ -145,10 +151,11 @@ abbrev pub NoneIsLong : (mtu : Option ℕ) → Link → List Item → Type 0
 NoneIsLong None link trace = Unit {0}
 NoneIsLong (Some mtu) link trace = AllByRecursion (λ item. All (λ frame. is_long link mtu frame ≡ false) item.frames) trace
 
--- What is written of a trace. Each clean record has one frame with the record's payload, or the segments that carry it, unless a frame of the record is too
--- long and dropped; receivers agree on what is written, and read parts of one stream, and before the first record and after each a monitor has missed nothing;
--- no frame of it is too long, by the MTU or for a capture; each frame written inwards is plain, except ARP; and after no record more is held than the settings
--- allow.
+-- What is written of a trace. Each clean record has one frame with the record's payload, or the
+-- segments that carry it, unless a frame of the record is too long and dropped. Receivers agree on
+-- what is written, and read parts of one stream. Before the first record and after each a monitor
+-- has missed nothing. No frame of it is too long, by the MTU or for a capture. Each frame written
+-- inwards is plain, except ARP. After no record more is held than the settings allow.
 pub record IsWrittenSoundly (settings : PlainSettings) (link : Link) (trace : List Item) : Type 0 where
   pub clean_kept : CleanIsWritten settings link trace
   pub within : IsAlwaysWithin settings link trace
@@ -164,17 +171,19 @@ abbrev pub FramesHaveOctets : (mtu : Option ℕ) → (frames : List (List ℕ)) 
 FramesHaveOctets None frames = Unit {0}
 FramesHaveOctets (Some mtu) frames = All AreOctets frames
 
--- this holds of each item of the trace
+-- this holds for each item of the trace
 abbrev pub HaveFrameOctets : (mtu : Option ℕ) → List Item → Type 0
 HaveFrameOctets mtu trace = AllByRecursion (λ item. FramesHaveOctets mtu item.frames) trace
 
--- This holds of each sound trace under settings in their ranges, whose frames that may be cut are octets.
+-- This holds for each sound trace under settings in their ranges, whose frames that may be cut are
+-- octets.
 abbrev pub LawfulIsWrittenSoundly : Type 0
 LawfulIsWrittenSoundly =
     (settings : PlainSettings) (link : Link) (trace : List Item) → AreInRange settings → IsSound settings link trace → HaveFrameOctets settings.mtu trace
     → IsWrittenSoundly settings link trace
 
--- the report on one frame: how many frames are written for it, whether it was cut, and whether it was dropped
+-- the report on one frame: how many frames are written for it, whether it was cut, and whether it
+-- was dropped
 pub record TellsOne (mtu : ℕ) (link : Link) (frame : List ℕ) (emitted : Emitted) : Type 0 where
   pub packets : emitted.packets ≡ length (frames_for link mtu frame)
   pub cut : emitted.cut ≡ e_cut link mtu frame
@@ -186,7 +195,8 @@ pub record TellsAll (mtu : ℕ) (link : Link) (frames : List (List ℕ)) (emitte
   pub cut : emitted.cut ≡ cuts_some (Some mtu) link frames
   pub kept_back : emitted.kept_back ≡ keeps_some_back (Some mtu) link frames
 
--- Each frame can be written on this link, a bounded MTU is at least 576, and fewer than 256 frames are written.
+-- Each frame can be written on this link, a bounded MTU is at least 576, and fewer than 256 frames
+-- are written.
 pub record CanWrite (mtu : Option ℕ) (link : Link) (frames : List (List ℕ)) : Type 0 where
   pub sent : All (IsSent link) frames
   pub least : IfSome mtu (λ most. 576 ≤ most)

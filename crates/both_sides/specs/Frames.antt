@@ -1,4 +1,5 @@
--- The octets of a written capture, from the frames of a trace (this project's profile). A trace is a list with the newest item at the head.
+-- The octets of a written capture, from the frames of a trace (this project's profile). A trace is
+-- a list with the newest item at the head.
 use Rattle.std.specs.Prelude.{ℕ, ◌+◌, List, [], ◌∷◌, ◌++◌, length}
 use Rattle.std.specs.List.{flat_map}
 use Rattle.pcap_file.specs.declared.order.Order.{Order}

@@ -33,8 +33,9 @@ abbrev pub line_for : Option PlainEntry → List ℕ
 line_for None = []
 line_for (Some entry) = answer_text entry
 
--- The answers of two engines for a record after their traces: the entry of the record, those that the second engine has for the frames of the first (at most
--- two), and the frames written. The engines then represent their traces with these items.
+-- The answers of two engines for a record after their traces: the entry of the record, those that
+-- the second engine has for the frames of the first (at most two), and the frames written. The
+-- engines then represent their traces with these items.
 pub record IsJudged (old new : Joined) (trace mirror : List Item) (r : Packet) (own : PlainEntry) (first second : Option PlainEntry) (frames : List (List ℕ)) : Type 0 where
   pub own_is : own ≡ (item_of old.first.settings old.first.link trace r).entry
   pub text_is : line_for first ++ line_for second

@@ -17,12 +17,13 @@ is_outward (Some Outward) = true
 is_outward (Some Inward) = false
 is_outward None = false
 
--- no record of the trace has a side of its own
+-- no record of the trace has its own side
 abbrev pub HaveNoSide : List Item → Type 0
 HaveNoSide [] = Unit {0}
 HaveNoSide (item ∷ older) = HaveNoSide older × (item.packet.side ≡ None)
 
--- A pair of lawful traces: of records of octets without a side of their own, and for settings of at most 254 routers without exchanged sides.
+-- A pair of lawful traces: of records of octets without their own side, and for settings of at most
+-- 254 routers without exchanged sides.
 pub record AreSound (settings : PlainSettings) (link : Link) (trace mirror : List Item) : Type 0 where
   pub hops : settings.hops ≤ 254
   pub upright : settings.mirror ≡ false
@@ -36,8 +37,9 @@ pub record GoesThrough (item : Item) : Type 0 where
   pub passes : item.entry.verdict ≡ verdicts.Pass
   pub whole : item.frames ≡ item.packet.octets ∷ []
 
--- Each frame that the first engine writes for a record which does not go outwards passes the second engine octet for octet: the frames that go inwards, and
--- those of ARP. So the bridge writes inwards what the first engine writes.
+-- Each frame that the first engine writes for a record which does not go outwards passes the second
+-- engine octet for octet: the frames that go inwards, and those of ARP. So the bridge writes
+-- inwards what the first engine writes.
 abbrev pub InwardGoesThrough : (trace mirror : List Item) → Type 0
 InwardGoesThrough [] mirror = Unit {0}
 InwardGoesThrough (item ∷ older) mirror =
@@ -47,7 +49,8 @@ InwardGoesThrough (item ∷ older) mirror =
 abbrev pub FramesGoThrough : Type 0
 FramesGoThrough = (settings : PlainSettings) (link : Link) (trace mirror : List Item) → AreSound settings link trace mirror → InwardGoesThrough trace mirror
 
--- Receivers agree on what is written to either side, if the records and the frames are of octets, with at most 254 routers.
+-- Receivers agree on what is written to either side, if the records and the frames are of octets,
+-- with at most 254 routers.
 abbrev pub BothAgree : Type 0
 BothAgree =
     (settings : PlainSettings) (link : Link) (trace mirror : List Item) → settings.hops ≤ 254 → HaveOctets trace → HaveOctets mirror

@@ -1,4 +1,5 @@
--- The outputs of a run, as one list in the order in which they are written (this project's profile).
+-- The outputs of a run, as one list in the order in which they are written (this project's
+-- profile).
 use Rattle.std.specs.Prelude.{◌≡◌, ℕ, ◌<◌, Bool, true, false, List, [], ◌∷◌, ◌++◌, length, take, None, codes}
 use Rattle.std.specs.Io.KnownBytes.{Appends}
 use Rattle.rule_book.specs.Text.{first_line}
@@ -49,15 +50,16 @@ fault_at (to_report octets) = faults.Report
 fault_at capture_hands_on = faults.Capture
 fault_at report_hands_on = faults.Report
 
--- The output can fail, given the known octets of the sinks: the capture is given some octets, or the report is given a line, or a sink that buffers, so that
--- its octets are not known, is flushed.
+-- The output can fail, given the known octets of the sinks. The capture is given some octets, or
+-- the report is given a line, or a sink whose octets are not known, since it buffers, is flushed.
 abbrev pub CanFail : Output → (now : Sinks) → Type 0
 CanFail (to_capture octets) now = 0 < length octets
 CanFail (to_report octets) now = Unit {0}
 CanFail capture_hands_on now = now.capture.octets ≡ None
 CanFail report_hands_on now = now.report.octets ≡ None
 
--- Of the next outputs, the first ones were given completely, and then a prefix of the one that failed, which may be all of it.
+-- Of the next outputs, the first ones were given completely, and then a prefix of the one that
+-- failed, which may be all of it.
 pub record BreaksOff (behind next : List Output) (fault : RelayFault) (before now : Sinks) : Type 0 where
   pub whole : List Output
   pub failed : Output

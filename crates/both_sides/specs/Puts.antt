@@ -1,5 +1,5 @@
--- The output for each record of a run: its frames as they are written, and its text in the report (this project's profile). Lists of outputs have the newest at
--- the head.
+-- The output for each record of a run: its frames as they are written, and its text in the report
+-- (this project's profile). Lists of outputs have the newest at the head.
 use Rattle.std.specs.Prelude.{◌≡◌, ℕ, ◌+◌, Bool, List, [], ◌∷◌, ◌++◌, length, map, take, drop}
 use Rattle.std.specs.List.{flat_map}
 use Rattle.wire_base.specs.declared.address.Link.{Link}
@@ -42,7 +42,8 @@ abbrev pub answers_frames : List Item → List (List ℕ)
 answers_frames [] = []
 answers_frames (item ∷ older) = answers_frames older ++ item.frames
 
--- by two engines: the frames that the second has for those of the first, and the line of the record followed by the lines of the second
+-- by two engines: the frames that the second has for those of the first, and the line of the record
+-- followed by the lines of the second
 abbrev pub put_by_two : Item → (answers : List Item) → Put
 put_by_two item answers =
     record {

@@ -1,4 +1,5 @@
--- What the recorded host read, if a run changed nothing inwards, and what receivers read of two eras of a run.
+-- What the recorded host read, if a run changed nothing inwards, and what receivers read of two
+-- eras of a run.
 use Rattle.std.specs.Prelude.{◌≡◌, ◌≤◌, List, None}
 use Rattle.wire_base.specs.declared.address.Link.{Link}
 use Rattle.norm_settings.specs.Settings.{PlainSettings}
@@ -8,20 +9,22 @@ use Rattle.norm_engine.specs.TwoEras.{ErasGoOn}
 use Rattle.both_sides.specs.Cut.{written}
 use Rattle.both_sides.specs.Runs.{LawfulRun, RunHasOctets, RunTrace, one, two}
 
--- Of what is written of each lawful run of records of octets by one engine, without an MTU and with at most 254 routers: where each line so far that is inbound or
--- has no side is `pass`, the recorded packets that go inwards are those that were written, and were read so. The same of the records and eras of a pair of
--- addresses.
+-- This is said of what is written in each lawful run of records of octets by one engine, without an
+-- MTU and with at most 254 routers. If each line so far that is inbound or has no side is `pass`,
+-- the inward packets as recorded are those that were written, and were read so. The same of the
+-- records and eras of a pair of addresses.
 abbrev pub RunsWereReadSo : Type 0
 RunsWereReadSo =
     (settings : PlainSettings) (link : Link) (trace : List Item) → settings.hops ≤ 254 → LawfulRun settings link (one trace) → RunHasOctets settings (one trace)
     → settings.mtu ≡ None → UnchangedWasReadSo settings link (written settings link trace)
 
--- Two eras of what is written by one engine without an MTU, or of the trace of either engine, are read as the definitions of two eras say.
+-- Two eras of what is written by one engine without an MTU, or of the trace of either engine, are
+-- read as the definitions of two eras say.
 abbrev pub RunErasGoOn : PlainSettings → Link → RunTrace → Type 0
 RunErasGoOn settings link (one trace) = settings.mtu ≡ None → ErasGoOn settings.hops link (written settings link trace)
 RunErasGoOn settings link (two trace mirror) = ErasGoOn settings.hops link trace × ErasGoOn settings.hops link mirror
 
--- This holds of each lawful run of records of octets with at most 254 routers.
+-- This holds for each lawful run of records of octets with at most 254 routers.
 abbrev pub ErasOfRunsGoOn : Type 0
 ErasOfRunsGoOn =
     (settings : PlainSettings) (link : Link) (run : RunTrace) → settings.hops ≤ 254 → LawfulRun settings link run → RunHasOctets settings run

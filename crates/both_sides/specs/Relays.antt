@@ -1,4 +1,5 @@
--- The state of a relay: one engine or two, and the run that they represent (this project's profile).
+-- The state of a relay: one engine or two, and the run that they represent (this project's
+-- profile).
 use Rattle.std.specs.Prelude.{◌≡◌, ℕ, ◌-◌, ◌^◌, nat_le, Bool, true, false, List, length, Option, None}
 use Rattle.wire_base.specs.declared.address.Link.{Link}
 use Rattle.norm_settings.specs.Settings.{PlainSettings, AreInRange}
@@ -40,7 +41,8 @@ StandsForRun (One engine) (two trace mirror) = ⊥
 StandsForRun (Two both) (one trace) = ⊥
 StandsForRun (Two both) (two trace mirror) = double.StandsFor both trace mirror
 
--- one engine has this MTU and settings in their ranges; of two the second has read each frame of the first
+-- one engine has this MTU and settings in their ranges; if there are two, the second has read each
+-- frame of the first
 abbrev pub IsReady : Engines → (mtu : Option ℕ) → Type 0
 IsReady (One engine) mtu = (engine.settings.mtu ≡ mtu) × AreInRange engine.settings
 IsReady (Two both) mtu = length both.pending ≡ 0
@@ -52,7 +54,8 @@ pub record IsKept (engines : Engines) (mtu : Option ℕ) : Type 0 where
   pub stands : StandsForRun engines run
   pub octets : RunHasOctets (settings_of engines) run
 
--- One engine has this MTU and this link, settings in their ranges, and represents some history over records of octets.
+-- One engine has this MTU and this link, settings in their ranges, and represents some history over
+-- records of octets.
 pub record CanRead (engine : single.Engaged) (mtu : Option ℕ) (link : Link) : Type 0 where
   pub bound : engine.settings.mtu ≡ mtu
   pub same : engine.link ≡ link

@@ -19,7 +19,8 @@ use Rattle.both_sides.specs.Frames.{frame_count, frames_octets}
 use Rattle.both_sides.specs.Puts.{count_put, next_put, octets_put, puts, report_of}
 use Rattle.both_sides.specs.Runs.{LawfulRun, RunHasNoSide, RunHasOctets, RunTrace, empty_run, next_run, one, packets_of, two}
 
--- The run has no records, so that all octets are below 256 and none has a side of its own; it is lawful, and has no output.
+-- The run has no records, so that all octets are below 256 and none has its own side; it is lawful,
+-- and has no output.
 pub record Begins (settings : PlainSettings) (link : Link) (run : RunTrace) : Type 0 where
   pub lawful : LawfulRun settings link run
   pub taken : packets_of run ≡ []
@@ -27,12 +28,13 @@ pub record Begins (settings : PlainSettings) (link : Link) (run : RunTrace) : Ty
   pub octets : RunHasOctets settings run
   pub sideless : RunHasNoSide run
 
--- A run begins so, with one engine or with two.
+-- A run begins in this state, with one engine or with two.
 abbrev pub RunsBegin : Type 0
 RunsBegin = (settings : PlainSettings) (link : Link) → Begins settings link (empty_run settings.both)
 
--- A run with one record more has that record, is lawful if the run was, and adds the output for the record. If both sides are protected, and neither a record
--- of the run nor this one has a side of its own, no record of the new run has one.
+-- A run with one record more has that record, is lawful if the run was, and adds the output for the
+-- record. If both sides are protected, and neither a record of the run nor this one has its own
+-- side, no record of the new run has one.
 pub record GoesOn (settings : PlainSettings) (link : Link) (run : RunTrace) (r : Packet) : Type 0 where
   pub lawful : LawfulRun settings link run → LawfulRun settings link (next_run settings link run r)
   pub taken : packets_of (next_run settings link run r) ≡ r ∷ packets_of run
@@ -51,7 +53,8 @@ pub record PutsItsTrace (settings : PlainSettings) (link : Link) (trace : List I
 abbrev pub OnePutsItsTrace : Type 0
 OnePutsItsTrace = (settings : PlainSettings) (link : Link) (trace : List Item) → PutsItsTrace settings link trace
 
--- The output of two engines with such traces is the trace of the second: its frames, each with the time of its record, and their number.
+-- The output of two engines with such traces is the trace of the second: its frames, each with the
+-- time of its record, and their number.
 pub record PutsItsMirror (settings : PlainSettings) (link : Link) (trace mirror : List Item) : Type 0 where
   pub octets : (order : Order) → octets_put order (puts settings link (two trace mirror)) ≡ frames_octets order mirror
   pub count : count_put (puts settings link (two trace mirror)) ≡ frame_count mirror
@@ -66,9 +69,11 @@ LawfulRunsAreOne =
     (settings : PlainSettings) (link : Link) (run other : RunTrace) → LawfulRun settings link run → LawfulRun settings link other → packets_of run ≡ packets_of other
     → run ≡ other
 
--- What two engines write: the clean records of each keep their payload, and after none more is held than the settings allow; receivers agree on either side and
--- read parts of one stream, and a monitor there misses nothing; frames written inwards pass the second engine octet for octet, so that all three hold of what was
--- written; each frame written inwards by an engine is plain, except ARP; and no frame is too long for a capture.
+-- What two engines write. The clean records of each keep their payload, and after none more is held
+-- than the settings allow. Receivers agree on either side and read parts of one stream, and a
+-- monitor there misses nothing. Frames written inwards pass the second engine octet for octet, so
+-- that all three hold for what was written. Each frame written inwards by an engine is plain,
+-- except ARP. No frame is too long for a capture.
 pub record AreWrittenSoundly (settings : PlainSettings) (link : Link) (trace mirror : List Item) : Type 0 where
   pub clean_kept : CleanIsKept settings link trace
   pub clean_kept_behind : CleanIsKept (mirrored settings) link mirror
@@ -90,8 +95,8 @@ abbrev pub RunIsWrittenSoundly : PlainSettings → Link → RunTrace → Type 0
 RunIsWrittenSoundly settings link (one trace) = IsWrittenSoundly settings link trace
 RunIsWrittenSoundly settings link (two trace mirror) = AreWrittenSoundly settings link trace mirror
 
--- This holds of each lawful run under compatible settings in their ranges, whose records and frames are octets, and whose records have no side of their own if
--- both sides are protected.
+-- This holds for each lawful run under compatible settings in their ranges, whose records and
+-- frames are octets, and whose records do not have their own side if both sides are protected.
 abbrev pub RunsAreWrittenSoundly : Type 0
 RunsAreWrittenSoundly =
     (settings : PlainSettings) (link : Link) (run : RunTrace) → AreInRange settings → GoTogether settings → LawfulRun settings link run → RunHasOctets settings run

@@ -1,4 +1,5 @@
--- The traces of two engines in sequence (this project's profile). Traces are lists of items with the newest at the head.
+-- The traces of two engines in sequence (this project's profile). Traces are lists of items with
+-- the newest at the head.
 use Rattle.std.specs.Prelude.{◌≡◌, ℕ, true, List, [], ◌∷◌, length, map, None}
 use Rattle.wire_base.specs.declared.address.Link.{Link}
 use Rattle.pcap_file.specs.Records.{Packet}
@@ -10,8 +11,8 @@ use Rattle.norm_engine.specs.Trace.{Lawful}
 abbrev pub mirrored : PlainSettings → PlainSettings
 mirrored settings = record settings { mirror = true }
 
--- the record of a frame for the second engine: with the time of the record for which it was written, with its own length as the original one, and without a
--- side of its own, as a capture of the frame would be read
+-- The record of a frame for the second engine, as a capture of the frame would be read. It has the
+-- time of the record for which it was written, its own length as the original length, and no side.
 abbrev pub record_of : (seconds fraction : ℕ) → (frame : List ℕ) → Packet
 record_of seconds fraction frame = record { seconds = seconds; fraction = fraction; original = length frame; side = None; octets = frame }
 
@@ -29,7 +30,8 @@ abbrev pub records_of : List Item → List Packet
 records_of [] = []
 records_of (item ∷ older) = behind (records_for item) (records_of older)
 
--- The trace of the first engine is lawful for the settings, and that of the second for the mirrored ones, with the frames of the first as its records.
+-- The trace of the first engine is lawful for the settings, and that of the second for the mirrored
+-- ones, with the frames of the first as its records.
 pub record AreLawful (settings : PlainSettings) (link : Link) (trace mirror : List Item) : Type 0 where
   pub first : Lawful settings link trace
   pub second : Lawful (mirrored settings) link mirror

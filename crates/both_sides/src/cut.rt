@@ -35,8 +35,8 @@ pub struct Emitted {
     pub kept_back: bool,
 }
 
-/// Writes the record if it is written as it was read, otherwise the frames of the outbox, each with
-/// the record's time, and reports cuts and drops in its entry.
+/// Writes the record if it is written as it was read, and otherwise the frames of the outbox, each
+/// with the record's time. Reports cuts and drops in its entry.
 pub fn write_item<K: Sink>(
     as_read: bool,
     room: &mut Room,

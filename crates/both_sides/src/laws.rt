@@ -1,4 +1,5 @@
-//! Laws of the traces of two engines in sequence, of the traces of runs, and of the outputs for them.
+//! Laws of the traces of two engines in sequence, of the traces of runs, and of the outputs for
+//! them.
 ghost use Rattle.both_sides.specs.Cut.{AgreesWhole, LawfulIsWrittenSoundly, MissesNothingWhole, ReadsWhole, WrittenWhole};
 ghost use Rattle.both_sides.specs.Laws.{BothAgree, FramesGoThrough};
 ghost use Rattle.both_sides.specs.RunLaws.{LawfulRunsAreOne, OnePutsItsTrace, RunsAreWrittenSoundly, RunsBegin, RunsGoOn, TwoPutTheirMirror};
@@ -64,9 +65,9 @@ pub fn lawful_runs_are_one()
     lawful_is_one();
 }
 
-/// Proves that without an MTU what is written of a trace is the trace, so receivers agree on what is
-/// written exactly if they agree on the trace, and so with the parts of one stream that they read,
-/// and with monitors, which miss nothing.
+/// Proves that without an MTU what is written of a trace is the trace. So receivers agree on what
+/// is written exactly if they agree on the trace. The same applies to the parts of one stream that
+/// they read, and to monitors, which miss nothing.
 pub fn unbounded_is_written_whole()
     ensures whole { WrittenWhole }
     ensures agree { AgreesWhole }
@@ -75,10 +76,10 @@ pub fn unbounded_is_written_whole()
 {}
 
 /// Proves of what is written of each sound trace: a clean record has its payload, in one frame or
-/// in segments, unless a frame of the record is too long and dropped; receivers agree on it and read
-/// parts of one stream, and before the first record and after each a monitor has missed nothing; no
-/// frame of it is too long; each frame written inwards is plain, except ARP; and no more is held than
-/// the settings allow.
+/// in segments, unless a frame of the record is too long and dropped. Receivers agree on it and
+/// read parts of one stream. Before the first record and after each a monitor has missed nothing.
+/// No frame of it is too long. Each frame written inwards is plain, except ARP. No more is held
+/// than the settings allow.
 pub fn lawful_is_written_soundly()
     ensures { LawfulIsWrittenSoundly }
 {
@@ -102,9 +103,9 @@ pub fn lawful_is_written_soundly()
     monitors_miss_nothing();
 }
 
-/// Proves the same of each lawful run by one engine. Of one by two: clean records keep their
-/// payload in each trace, no more is held in either than the settings allow, receivers agree on
-/// either side and read parts of one stream, and a monitor there misses nothing.
+/// Proves the same of each lawful run by one engine. In a run by two engines clean records keep
+/// their payload in each trace, and no more is held in either than the settings allow. Receivers
+/// agree on either side and read parts of one stream, and a monitor there misses nothing.
 pub fn runs_are_written_soundly()
     ensures { RunsAreWrittenSoundly }
 {
@@ -120,11 +121,11 @@ pub fn runs_are_written_soundly()
 }
 
 /// Proves of each lawful run that in each era of each engine each octet of the stream, and its end,
-/// was brought by the very record of that engine that added it, which for the second is a frame of
-/// the first. A line names T_CLASH exactly if its record is written, has neither SYN nor RST, and
-/// has, at an offset at or past Acked, another octet than the one written first there; and F_CLASH
-/// exactly if its record carries a fragment, which no rule tested before drops, with another octet
-/// than a held one.
+/// was brought by the very record of that engine that added it. For the second engine that record
+/// is a frame of the first. A line names T_CLASH exactly if its record is written, has neither SYN
+/// nor RST, and has, at an offset at or past Acked, an octet that differs from the one written
+/// first there. It names F_CLASH exactly if its record carries a fragment, which no rule tested
+/// before drops, with an octet that differs from a held one.
 pub fn runs_invent_nothing()
     ensures { RunsAreBrought }
 {
@@ -133,7 +134,7 @@ pub fn runs_invent_nothing()
     lawful_fragment_clashes_are_real();
 }
 
-/// Proves of each lawful run that receivers of the packets written read only what records brought.
+/// Proves of each lawful run that receivers of the written packets read only what records brought.
 /// If no record of an era differs from an earlier one at an offset at or past Acked, no line of it
 /// names T_CLASH, and receivers read what the sender gave.
 pub fn runs_read_records()
@@ -143,9 +144,10 @@ pub fn runs_read_records()
     runs_invent_nothing();
 }
 
-/// Proves of what is written of each lawful run by one engine, without an MTU: if each line that is
-/// inbound or has no side is `pass`, the recorded packets that go inwards are those that were
-/// written, and were read so. The same of the records and eras of a pair of addresses.
+/// Proves for each lawful run by one engine without an MTU that the recorded host read what was
+/// written. If each line that is inbound or has no side is `pass`, the inward packets as recorded
+/// are those that were written, and were read so.
+/// The same of the records and eras of a pair of addresses.
 pub fn unchanged_runs_were_read_so()
     ensures { RunsWereReadSo }
 {
@@ -153,10 +155,11 @@ pub fn unchanged_runs_were_read_so()
     unbounded_is_written_whole();
 }
 
-/// Proves of any two eras of a lawful run, by one engine without an MTU or by two: if all that was
-/// written inwards in the first is acknowledged, and the base of the second is not before that, no
-/// octet of the second is at an offset that a receiver has read in the first. If besides no FIN was
-/// written inwards in the first and no SYN in the second, both are read as one era.
+/// Proves of any two eras of a lawful run, by one engine without an MTU or by two, that nothing is
+/// read again. Premises: all that was written inwards in the first is acknowledged, and the base of
+/// the second is not before that. Then no octet of the second is at an offset that a receiver has
+/// read in the first. If besides no FIN was written inwards in the first and no SYN in the second,
+/// both are read as one era.
 pub fn eras_of_runs_go_on()
     ensures { ErasOfRunsGoOn }
 {

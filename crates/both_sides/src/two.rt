@@ -75,8 +75,8 @@ fn judge_both(both: &mut Both, out: &mut Outbox, behind: &mut Outbox, input: &Re
     ensures link { both.new.first.link ≡ both.old.first.link }
 {
     items_are_counted();
-    // `front` takes the address of its record. That of a copy, so that the loop over records does
-    // not store its record where there is one engine.
+    // `front` takes the address of a copy of its record, so that the loop over records does not
+    // store its record if there is one engine.
     let record = *input;
     let own = both.front(&record);
     let first = answer_next(both, out);

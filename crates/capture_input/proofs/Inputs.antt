@@ -1,4 +1,5 @@
--- All octets are an input or have a first fault, never both; its head and records are the only ones, and so is each beginning.
+-- All octets are an input or have a first fault, never both; its head and records are the only
+-- ones, and so is each beginning.
 use Rattle.std.proofs.Common.{◌≡◌, ◌⊎◌, ℕ, true, false, List, [], Option, Some, None, Result, Ok, Err, refl, sym, ap, ◌∙◌, subst, inl, inr, ◌+◌, ◌<◌, ◌≤◌, ◌∷◌, ◌++◌, length, drop, arith, Bool}
 use Rattle.std.proofs.lemmas.Bool.{cases_lt}
 use Rattle.std.proofs.lemmas.List.{length-append, nil_from_length}

@@ -1,4 +1,5 @@
--- Where a call fails, or at the end: the fault that the known octets have there, and that no more records stand before it.
+-- Where a call fails, or at the end: the fault that the known octets have there, and that there are
+-- no more records before it.
 use Rattle.std.proofs.Common.{◌≡◌, ℕ, false, List, ◌++◌, length, Option, Some, None, Err, refl, sym, ap, ◌∙◌, subst, inl, inr, append-nil, ◌+◌, ◌<◌, ◌≤◌, [], ◌∷◌, drop, Ok, arith, length-append}
 use Rattle.std.specs.Io.KnownBytes.{Consumes}
 use Rattle.std.proofs.lemmas.Bool.{cases_lt}

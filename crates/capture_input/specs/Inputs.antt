@@ -1,5 +1,6 @@
--- An input as a whole: octets that begin with the type of a section block are a pcapng file, and all others a classic file (this project's profile). `inside`
--- is the name of the inside interface, if it is given.
+-- An input as a whole: octets that begin with the type of a section block are a pcapng file, and
+-- all others a classic file (this project's profile). `inside` is the name of the inside interface,
+-- if it is given.
 use Rattle.std.specs.Prelude.{◌≡◌, ◌⊎◌, ℕ, Bool, true, false, List, [], ◌∷◌, length, take, drop, Option, Some, None, Result, Ok, Err}
 use Rattle.std.specs.Str.{bytes_eq}
 use Rattle.wire_base.specs.declared.address.Link.{Link}
@@ -25,7 +26,8 @@ section_octets = 10 ∷ 13 ∷ 13 ∷ 10 ∷ []
 abbrev pub is_sections : List ℕ → Bool
 is_sections octets = bytes_eq (take 4 octets) section_octets
 
--- The entries read of an input, the newest first: the records of a classic file after its head, or all blocks of a pcapng file, those of its head included.
+-- The entries read of an input, the newest first: the records of a classic file after its head, or
+-- all blocks of a pcapng file, those of its head included.
 pub data Walk : Type 0 where
   records : List Packet → Walk
   blocks : List Step → Walk
@@ -40,7 +42,8 @@ abbrev pub place_behind : Walk → ℕ
 place_behind (records packets) = offset_of packets
 place_behind (blocks steps) = size_of steps
 
--- the offset of the newest record or block; of a classic file without a record, the offset after the head
+-- the offset of the newest record or block; of a classic file without a record, the offset after
+-- the head
 abbrev pub newest_place : Walk → ℕ
 newest_place (records []) = offset_of []
 newest_place (records (packet ∷ older)) = offset_of older
@@ -51,7 +54,8 @@ abbrev pub newest_given : List Step → Option Packet
 newest_given [] = None
 newest_given (step ∷ older) = step.given
 
--- Blocks with these records end with the block of the newest record or, if there is none, with the first interface block.
+-- Blocks with these records end with the block of the newest record or, if there is none, with the
+-- first interface block.
 abbrev pub BlocksEndAt : (packets : List Packet) → List Step → Type 0
 BlocksEndAt [] steps = EndsAtInterface steps
 BlocksEndAt (packet ∷ older) steps = newest_given steps ≡ Some packet
@@ -61,7 +65,8 @@ abbrev pub EndsAtNewest : Walk → Type 0
 EndsAtNewest (records packets) = Unit {0}
 EndsAtNewest (blocks steps) = BlocksEndAt (packets_of steps) steps
 
--- the head of a classic file; it is refused if the name of the inside interface is given, since it has no interfaces
+-- the head of a classic file; it is refused if the name of the inside interface is given, since it
+-- has no interfaces
 abbrev pub classic_head : (inside : Option (List ℕ)) → Result Head Flaw → Result Head InputFault
 classic_head inside (Err flaw) = Err (of_flaw flaw)
 classic_head None (Ok head) = Ok head
@@ -72,13 +77,15 @@ abbrev pub IsHeadOf : Option Link → Head → Type 0
 IsHeadOf None head = ⊥
 IsHeadOf (Some link) head = head ≡ written_head (Some link)
 
--- The octets are a classic file that begins with this head and these records, the newest first; `rest` is left.
+-- The octets are a classic file that begins with this head and these records, the newest first;
+-- `rest` is left.
 pub record BeginsClassic (inside : Option (List ℕ)) (octets : List ℕ) (head : Head) (packets : List Packet) (rest : List ℕ) : Type 0 where
   pub kind : is_sections octets ≡ false
   pub accepted : classic_head inside (head_of octets) ≡ Ok head
   pub reads : ReadsTo head.order (drop 24 octets) packets rest
 
--- The octets are a pcapng file that begins with these blocks, the newest first, an interface among them; `rest` is left.
+-- The octets are a pcapng file that begins with these blocks, the newest first, an interface among
+-- them; `rest` is left.
 pub record BeginsSections (inside : Option (List ℕ)) (octets : List ℕ) (head : Head) (steps : List Step) (rest : List ℕ) : Type 0 where
   pub kind : is_sections octets ≡ true
   pub walks : Walks inside no_section octets steps rest
@@ -89,8 +96,8 @@ abbrev pub BeginsWith : (inside : Option (List ℕ)) → (octets : List ℕ) →
 BeginsWith inside octets head (records packets) rest = BeginsClassic inside octets head packets rest
 BeginsWith inside octets head (blocks steps) rest = BeginsSections inside octets head steps rest
 
--- The octets are a whole input with this head and these records, the newest first: it may end after the head or any record of a classic file, and after the
--- first interface or any later block of a pcapng file.
+-- The octets are a whole input with this head and these records, the newest first. A classic file
+-- may end after the head or any record, a pcapng file after the first interface or any later block.
 pub record IsInput (inside : Option (List ℕ)) (octets : List ℕ) (head : Head) (packets : List Packet) : Type 0 where
   pub walk : Walk
   pub begins : BeginsWith inside octets head walk []
@@ -119,7 +126,8 @@ pub record FailsInClassicHead (inside : Option (List ℕ)) (octets : List ℕ) (
   pub refused : classic_head inside (head_of octets) ≡ Err fault
   pub place : offset ≡ 0
 
--- The octets are a pcapng file without an accepted head: the block at this offset has this fault, and no interface is before it.
+-- The octets are a pcapng file without an accepted head: the block at this offset has this fault,
+-- and no interface is before it.
 pub record FailsBeforeInterface (inside : Option (List ℕ)) (octets : List ℕ) (fault : InputFault) (offset : ℕ) : Type 0 where
   pub kind : is_sections octets ≡ true
   pub steps : List Step
@@ -158,7 +166,8 @@ pub record EndsBadly (inside : Option (List ℕ)) (octets : List ℕ) : Type 0 w
   pub offset : ℕ
   pub is : FailsAt inside octets fault offset
 
--- If the source has known octets, they begin with this head and these entries, and the rest is left.
+-- If the source has known octets, they begin with this head and these entries, and the rest is
+-- left.
 abbrev pub Took : (inside old new : Option (List ℕ)) → Head → Walk → Type 0
 Took inside None new head walk = Unit {0}
 Took inside (Some octets) None head walk = ⊥

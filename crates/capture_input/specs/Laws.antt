@@ -13,7 +13,8 @@ InputIsOne =
     (inside : Option (List ℕ)) (octets : List ℕ) (head other : Head) (packets others : List Packet)
     → IsInput inside octets head packets → IsInput inside octets other others → (head ≡ other) × (packets ≡ others)
 
--- Octets begin in one way with a given number of records and nothing after the newest of them or, if there is none, after the head.
+-- Octets begin in one way with a given number of records and nothing after the newest of them or,
+-- if there is none, after the head.
 abbrev pub BeginningIsOne : Type 0
 BeginningIsOne =
     (inside : Option (List ℕ)) (octets : List ℕ) (head other : Head) (walk farther : Walk) (rest left : List ℕ)
@@ -36,12 +37,14 @@ FaultExcludesEnd =
 abbrev pub EachInputEnds : Type 0
 EachInputEnds = (inside : Option (List ℕ)) (octets : List ℕ) → EndsWell inside octets ⊎ EndsBadly inside octets
 
--- A fault at which opening an input fails is the first fault of the known octets of the source, unless the source failed.
+-- A fault at which opening an input fails is the first fault of the known octets of the source,
+-- unless the source failed.
 abbrev pub HeadStopsAreFaults : Type 0
 HeadStopsAreFaults =
     (inside old new : Option (List ℕ)) (fault : InputFault) (offset : ℕ) → is_read_fault fault ≡ false → StopsInHead inside old new fault offset → HasFaultAt inside old fault offset
 
--- A fault at which reading fails after the entries read is the first fault of the known octets of the source, unless the source failed.
+-- A fault at which reading fails after the entries read is the first fault of the known octets of
+-- the source, unless the source failed.
 abbrev pub StopsAreFaults : Type 0
 StopsAreFaults =
     (inside old between new : Option (List ℕ)) (head : Head) (walk : Walk) (fault : InputFault) → is_read_fault fault ≡ false
@@ -53,13 +56,15 @@ InputHasAll =
     (inside : Option (List ℕ)) (octets : List ℕ) (head other : Head) (packets : List Packet) (walk : Walk) (rest : List ℕ)
     → IsInput inside octets head packets → BeginsWith inside octets other walk rest → length (packets_in walk) ≤ length packets
 
--- If opening an input fails, and the source did not fail, the known octets of the source do not begin with an accepted head.
+-- If opening an input fails, and the source did not fail, the known octets of the source do not
+-- begin with an accepted head.
 abbrev pub HeadStopsLeaveNone : Type 0
 HeadStopsLeaveNone =
     (inside new : Option (List ℕ)) (octets : List ℕ) (fault : InputFault) (offset : ℕ) (head : Head) (walk : Walk) (rest : List ℕ) → is_read_fault fault ≡ false
     → StopsInHead inside (Some octets) new fault offset → BeginsWith inside octets head walk rest → ⊥
 
--- If reading fails after the entries read, and the source did not fail, the known octets of the source begin with no more records than were read.
+-- If reading fails after the entries read, and the source did not fail, the known octets of the
+-- source begin with no more records than were read.
 abbrev pub StopsLeaveNone : Type 0
 StopsLeaveNone =
     (inside between new : Option (List ℕ)) (octets : List ℕ) (fault : InputFault) (head other : Head) (walk farther : Walk) (rest : List ℕ) → is_read_fault fault ≡ false

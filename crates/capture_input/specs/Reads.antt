@@ -1,5 +1,6 @@
--- The effect of opening an input, and of reading its next record, on the known octets of a source (this project's profile). None means that the octets are not
--- known; then nothing is claimed of them.
+-- The effect of opening an input, and of reading its next record, on the known octets of a source
+-- (this project's profile). None means that the octets are not known; then nothing is claimed of
+-- them.
 use Rattle.std.specs.Prelude.{◌≡◌, ◌⊎◌, ℕ, ◌<◌, ◌^◌, true, false, Bool, List, [], ◌∷◌, length, drop, Option, Some, None, Result, Ok, Err}
 use Rattle.edge_io.specs.Octets.{TakesFewer}
 use Rattle.pcap_file.specs.declared.head.Head.{Head}
@@ -25,7 +26,8 @@ abbrev pub IsKind : (sections : Bool) → Option (List ℕ) → Type 0
 IsKind sections None = Unit {0}
 IsKind sections (Some octets) = is_sections octets ≡ sections
 
--- the octets left have no accepted classic head but this fault, and the first 24 of them were taken, or all if there are fewer
+-- the octets left have no accepted classic head but this fault, and the first 24 of them were
+-- taken, or all if there are fewer
 abbrev pub IsRefused : (inside old new : Option (List ℕ)) → InputFault → Type 0
 IsRefused inside None new fault = Unit {0}
 IsRefused inside (Some xs) None fault = ⊥
@@ -42,14 +44,16 @@ pub record StopsInClassicHead (inside old new : Option (List ℕ)) (fault : Inpu
   pub stops : StopsClassic inside old new fault
   pub place : offset ≡ 0
 
--- A block of a pcapng file, at this offset, has this fault, or the source failed in it; no interface is before it, and all blocks before it were taken.
+-- A block of a pcapng file, at this offset, has this fault, or the source failed in it; no
+-- interface is before it, and all blocks before it were taken.
 pub record StopsBeforeInterface (inside old new : Option (List ℕ)) (fault : InputFault) (offset : ℕ) : Type 0 where
   pub kind : IsKind true old
   pub flaw : NgFault
   pub stops : sections.FailsAhead inside old new flaw offset
   pub is : fault ≡ of_block flaw
 
--- The head could not be read: the fault, the offset of the head or block that has it, and the octets taken.
+-- The head could not be read: the fault, the offset of the head or block that has it, and the
+-- octets taken.
 abbrev pub StopsInHead : (inside old new : Option (List ℕ)) → InputFault → (offset : ℕ) → Type 0
 StopsInHead inside old new fault offset = StopsInClassicHead inside old new fault offset ⊎ StopsBeforeInterface inside old new fault offset
 
@@ -68,11 +72,13 @@ abbrev pub Opens : (inside old new : Option (List ℕ)) → Result Input OpenFau
 Opens inside old new (Ok input) = OpensAt inside old new input
 Opens inside old new (Err stop) = StopsInHead inside old new stop.fault stop.offset
 
--- If the octets `before` are left after the entries `walk` of the source's octets, the octets `after` are left after the entries `farther`.
+-- If the octets `before` are left after the entries `walk` of the source's octets, the octets
+-- `after` are left after the entries `farther`.
 abbrev pub Continues : (inside : Option (List ℕ)) → Head → (walk farther : Walk) → (before after : Option (List ℕ)) → Type 0
 Continues inside head walk farther before after = (all : Option (List ℕ)) → Took inside all before head walk → Took inside all after head farther
 
--- After the entries read one more record was taken, and nothing after it; its offset is that of its record or block.
+-- After the entries read one more record was taken, and nothing after it; its offset is that of its
+-- record or block.
 pub record GivesPacket (old new : Input) (inside : Option (List ℕ)) (walk : Walk) (before after : Option (List ℕ)) (given : Record) : Type 0 where
   pub farther : Walk
   pub behind : Behind new inside farther
@@ -106,12 +112,14 @@ pub record StopsAtBlock (inside : Option (List ℕ)) (steps : List Step) (betwee
   pub stops : sections.Stops inside (behind no_section steps) between after cause
   pub is : fault ≡ of_block cause
 
--- The record or block after the entries read has this fault, or the source failed in it, and at most its octets were taken.
+-- The record or block after the entries read has this fault, or the source failed in it, and at
+-- most its octets were taken.
 abbrev pub StopsAt : (inside : Option (List ℕ)) → Head → Walk → (between after : Option (List ℕ)) → InputFault → Type 0
 StopsAt inside head (records packets) between after fault = StopsAtRecord head (length packets) between after fault
 StopsAt inside head (blocks steps) between after fault = StopsAtBlock inside steps between after fault
 
--- After the entries read and blocks without a record there is this fault, at the offset of its record or block.
+-- After the entries read and blocks without a record there is this fault, at the offset of its
+-- record or block.
 pub record StopsBehind (old new : Input) (inside : Option (List ℕ)) (walk : Walk) (before after : Option (List ℕ)) (fault : InputFault) : Type 0 where
   pub farther : Walk
   pub between : Option (List ℕ)

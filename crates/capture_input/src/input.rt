@@ -86,7 +86,7 @@ impl Input {
     }
 
     /// Returns the next record, with its octets in the buffer, and the offset of its record or
-    /// block. It has a side of its own only if the name of the inside interface is given.
+    /// block. It has its own side only if the name of the inside interface is given.
     pub fn next<'a, S: Source>(
         &mut self,
         source: &mut S,

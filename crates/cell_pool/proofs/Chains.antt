@@ -1,4 +1,5 @@
--- Chains of cells: what the links that lead through a chain imply, what a write preserves of them, and what contracts see of them.
+-- Chains of cells: what the links that lead through a chain imply, what a write preserves of them,
+-- and what contracts see of them.
 use Rattle.std.proofs.Common.{◌≡◌, ℕ, ◌<◌, ◌≤◌, ◌≢◌, List, [], ◌∷◌, ◌++◌, length, Option, Some, None, refl, sym, ap, subst, ◌∙◌, arith, length-append, suc, map, get_or}
 use Rattle.std.proofs.lemmas.List.{length-map, get_or-map, get_or_default}
 use Rattle.cell_pool.specs.declared.cells.Cell.{Cell}

@@ -1,4 +1,5 @@
--- Free cells: the free list, a pool after a free cell was taken into a chain, and after a cell of a chain was freed.
+-- Free cells: the free list, a pool after a free cell was taken into a chain, and after a cell of a
+-- chain was freed.
 use Rattle.std.proofs.Common.{◌≡◌, ℕ, zero, suc, ◌+◌, ◌-◌, ◌<◌, ◌≤◌, List, ◌∷◌, length, Option, Some, None, refl, sym, subst, arith, ◌≢◌, ◌++◌, get_or, set, IfSome, ap, ◌∙◌, length-append, []}
 use Rattle.std.proofs.lemmas.List.{get_or-set_same, get_or_default}
 use Rattle.cell_pool.specs.declared.cells.Cell.{Cell}

@@ -1,4 +1,5 @@
--- A cell is free or in the chain that owns it, and no cell occurs twice, so the lengths of all lists add up to the number of cells.
+-- A cell is free or in the chain that owns it, and no cell occurs twice, so the lengths of all
+-- lists add up to the number of cells.
 use Rattle.std.proofs.Common.{◌≡◌, ℕ, zero, suc, ◌+◌, ◌<◌, ◌≤◌, ◌≢◌, ◌⊎◌, inl, inr, List, [], ◌∷◌, ◌++◌, map, length, get_or, Option, Some, None, true, false, refl, sym, ap, subst, ◌∙◌, arith, length-append}
 use Rattle.std.specs.List.{sum_by, list_any, AllByRecursion, IsDistinct}
 use Rattle.std.proofs.Math.Dec.{eqb}
@@ -15,7 +16,8 @@ use Rattle.cell_pool.specs.Lists.{Lists, Held, Stands, StandsUpTo, chain_at, Sta
 use Rattle.cell_pool.specs.Links.{blank_cell, cell_at, next_at, held_at, head_at, walk, cells_of, owner_of, Leads, IsList}
 use Rattle.cell_pool.proofs.Chains.{owner_number, Avoids, FoundAt, avoids_other, avoids_itself, Shows, within, chain_is, stands_is, Leads_unique, stands_at}
 
--- A cell whose owner is a chain is in that chain: the lengths of all lists add up to the number of cells, and no cell occurs twice.
+-- A cell whose owner is a chain is in that chain: the lengths of all lists add up to the number of
+-- cells, and no cell occurs twice.
 
 -- the index of a cell
 abbrev index : Held → ℕ
@@ -240,7 +242,7 @@ module _ {heads : List Head} {cells : List Cell} {spare : Option CellId} {free a
       (ap (λ (k : Cell). k.owner) (sym here) ∙ (owned ∙ ap owner_of number))
       (omega (arith, ap (λ (k : Cell). k.block) here))
 
--- What holds of every pool.
+-- What holds for every pool.
 
 -- the counts of the heads are the lengths of the chains
 counts_are : (cells : List Cell) (heads : List Head) →

@@ -1,4 +1,5 @@
--- A pool after one chain was written, after the octets of one cell were, a new pool, and one with a cell that is about to be taken.
+-- A pool after one chain was written, after the octets of one cell were, a new pool, and one with a
+-- cell that is about to be taken.
 use Rattle.std.proofs.Common.{◌≡◌, ℕ, zero, suc, ◌+◌, ◌<◌, ◌≢◌, List, [], ◌∷◌, map, length, set, Option, None, refl, sym, ap, ◌∙◌, arith, inl, inr, length-set, ◌++◌, get_or, subst, length-append, ◌-◌, ◌^◌, replicate, Some, sum_by}
 use Rattle.std.proofs.lemmas.Bool.{cases_eq}
 use Rattle.std.proofs.lemmas.List.{get_or-set_same, get_or-set_other, get_or_default, set-get_or, length-replicate, get_or_append_left}

@@ -1,4 +1,5 @@
--- Runs of offsets: the masks of their bits, and what it means for the octets to test, compare, copy and write a run.
+-- Runs of offsets: the masks of their bits, and what it means for the octets to test, compare, copy
+-- and write a run.
 use Rattle.std.proofs.Common.{◌≡◌, ℕ, zero, suc, ◌+◌, ◌-◌, ◌*◌, ◌/◌, ◌%◌, ◌^◌, ◌<◌, ◌≤◌, List, ◌++◌, length, map, min, replicate, get_or, Option, Some, None, IsSome, is_some, IsTrue, Bool, true, false, ◌↔◌, refl, sym, ap, ap₂, subst, ◌∙◌, arith, eq-eqb, inl, inr, bit_and, bit_xor, ◌==◌, ◌&&◌, [], ◌∷◌, take, drop, Decides, if◌then◌else◌, bit_or, length-append, max}
 use Rattle.std.specs.Int.{bit_at}
 use Rattle.std.specs.List.{range_with_len, between}
@@ -64,7 +65,7 @@ ones_apart at end a b order low high = record {
       ∙ ap₂ (λ x y. (x + y) % 2) (low.behind i lt (omega arith)) (high.behind i lt over);
 }
 
--- what holds of four words holds of each
+-- what holds for four words holds for each
 pub four : (P : ℕ → Type 0) → P 0 → P 1 → P 2 → P 3 → (j : ℕ) → j < 4 → P j
 four P first second third fourth zero lt = first
 four P first second third fourth (suc zero) lt = second

@@ -1,4 +1,5 @@
--- How chains and the free list are linked by index through one list of cells (this project's profile).
+-- How chains and the free list are linked by index through one list of cells (this project's
+-- profile).
 use Rattle.std.specs.Prelude.{◌≡◌, ℕ, zero, suc, ◌+◌, ◌<◌, ◌≤◌, ◌^◌, List, [], ◌∷◌, ◌++◌, length, map, Option, Some, None, replicate, slice_index_or, slice_set}
 use Rattle.std.specs.List.{sum_by}
 use Rattle.cell_pool.specs.declared.cells.Cell.{Cell}
@@ -66,9 +67,10 @@ lists_of heads cells free all = record { chains = map (cells_of cells) heads; fr
 abbrev pub owner_of : ℕ → Option ChainId
 owner_of c = Some (record { 0 = c })
 
--- Each cell that was made is in exactly one list: one of the chains, or the free list. Block numbers rise along a chain. This follows because each list ends and
--- contains only cells that it owns, and the lengths of all lists add up to the number of cells that were made. Free cells are the `listed` ones of the free list
--- and those that are not made yet (`made`).
+-- Each cell that was made is in exactly one list: one of the chains, or the free list. Block
+-- numbers rise along a chain. This follows because each list ends and contains only cells that it
+-- owns, and the lengths of all lists add up to the number of cells that were made. Free cells are
+-- the `listed` ones of the free list and those that are not made yet (`made`).
 pub record IsSound (heads : List Head) (cells : List Cell) (spare : Option CellId) (free all : ℕ) : Type 0 where
   pub listed : ℕ
   pub free_list : IsList cells None spare listed
@@ -88,7 +90,7 @@ with_next cells i next = slice_set cells i (record (cell_at cells i) { next = ne
 abbrev pub loose_cell : Cell
 loose_cell = record { next = None; owner = None; block = 0; octets = replicate 256 None }
 
--- The cell `taken` was made behind the other cells, which were fewer than `all`.
+-- The cell `taken` was added after the other cells, which were fewer than `all`.
 pub record IsMade (cells : List Cell) (all : ℕ) (new : List Cell) (taken : CellId) : Type 0 where
   pub place : taken.0 ≡ length cells
   pub room : length cells < all

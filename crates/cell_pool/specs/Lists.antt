@@ -1,14 +1,17 @@
--- What contracts see of a pool (this project's profile): the list of cells of each chain, and the number of free cells.
+-- What contracts see of a pool (this project's profile): the list of cells of each chain, and the
+-- number of free cells.
 use Rattle.std.specs.Prelude.{◌≡◌, ℕ, ◌+◌, ◌-◌, ◌<◌, ◌≤◌, List, [], ◌∷◌, ◌++◌, length, map, Option, Some, None, IsSome, replicate, slice_index, slice_index_or, slice_set, min, take, drop}
 use Rattle.cell_pool.specs.declared.cells.CellId.{CellId}
 
--- A cell of a chain: its identifier, its block number, and an octet or nothing at each of its 256 offsets.
+-- A cell of a chain: its identifier, its block number, and an octet or nothing at each of its 256
+-- offsets.
 pub record Held : Type 0 where
   pub id : CellId
   pub block : ℕ
   pub octets : List (Option ℕ)
 
--- The cells of each chain, in order; the number of free cells; the number of all cells, which is that at opening.
+-- The cells of each chain, in order; the number of free cells; the number of all cells, which is
+-- that at opening.
 pub record Lists : Type 0 where
   pub chains : List (List Held)
   pub free : ℕ
@@ -73,7 +76,8 @@ abbrev pub IsRising : List Held → Type 0
 IsRising [] = Unit {0}
 IsRising (x ∷ xs) = BeginsAbove x.block xs × IsRising xs
 
--- The position after the cell `after` (the front where it is `None`) splits the chain into these two parts.
+-- The position after the cell `after` (the front where it is `None`) splits the chain into these
+-- two parts.
 pub record IsPlace (cells : List Held) (after : Option CellId) (before rest : List Held) : Type 0 where
   pub splits : cells ≡ before ++ rest
   pub ends : last_id before ≡ after
@@ -127,7 +131,7 @@ pub record StandsUpTo (pool : Lists) (chain block : ℕ) (name : CellId) : Type 
   pub stands : Stands pool chain name before cell after
   pub up_to : cell.block ≤ block
 
--- The cell with this identifier is in a chain, and `P` holds of its octets.
+-- The cell with this identifier is in a chain, and `P` holds for its octets.
 pub record IsHeldWith (pool : Lists) (name : CellId) (P : List (Option ℕ) → Type 0) : Type 0 where
   pub chain : ℕ
   pub before : List Held
@@ -136,13 +140,14 @@ pub record IsHeldWith (pool : Lists) (name : CellId) (P : List (Option ℕ) → 
   pub stands : Stands pool chain name before cell after
   pub holds : P cell.octets
 
--- Wherever the cell with this identifier is, `P` holds of it and of the cells after it.
+-- Wherever the cell with this identifier is, `P` holds for it and for the cells after it.
 abbrev pub Wherever : Lists → CellId → (Held → List Held → Type 0) → Type 0
 Wherever pool name P =
     (chain : ℕ) (before : List Held) (x : Held) (after : List Held) →
     Stands pool chain name before x after → P x after
 
--- Wherever the cell with this identifier is, `f` has been applied to its octets, and all else is unchanged.
+-- Wherever the cell with this identifier is, `f` has been applied to its octets, and all else is
+-- unchanged.
 abbrev pub Writes : Lists → Lists → CellId → (List (Option ℕ) → List (Option ℕ)) → Type 0
 Writes old new name f =
     (chain : ℕ) (before : List Held) (x : Held) (after : List Held) → Stands old chain name before x after →

@@ -1,4 +1,5 @@
--- How 256 offsets, each with an octet or nothing, are packed (this project's profile). They are 256 values, and four 64-bit words with one bit for each offset.
+-- How 256 offsets, each with an octet or nothing, are packed (this project's profile). They are 256
+-- values, and four 64-bit words with one bit for each offset.
 use Rattle.std.specs.Prelude.{◌≡◌, ℕ, ◌<◌, ◌≤◌, nat_lt, ◌^◌, ◌/◌, ◌%◌, List, map, Option, Some, None, slice_index, ◌==◌, if◌then◌else◌}
 use Rattle.std.specs.Int.{bit_at}
 use Rattle.std.specs.List.{range_with_len}

@@ -36,7 +36,7 @@ impl Model for Pool {
     ghost invariant = { λ p. IsSound p.heads.items p.cells.items p.spare p.free (vec_capacity p.cells) };
 }
 
-// If the free list, which `spare` leads to, is empty, makes a cell and puts it there, unless all
+// Makes a cell and puts it into the free list, which `spare` leads to, if that is empty and not all
 // cells are made. It allocates nothing: `open` reserved the memory.
 #[inline]
 fn ready(cells: &mut Vec<Cell>, trees: &mut Trees, spare: &mut Option<CellId>)
@@ -197,6 +197,7 @@ impl Pool {
     }
 
     /// Takes a free cell into the chain, without octets, after the given cell or at the front.
+    /// Returns None exactly if no cell is free.
     pub fn take_after(
         &mut self,
         chain: ChainId,
@@ -237,7 +238,7 @@ impl Pool {
         cell.octets.set(at, octet);
     }
 
-    /// Writes octets into the cell from `at` on, over any octets that are there.
+    /// Writes octets into the cell from `at` on. All others stay.
     pub fn set_run(&mut self, cell: CellId, at: u8, octets: &[u8])
         requires held { IsHeld self.old cell }
         requires fits { at + length octets.now ≤ 256 }

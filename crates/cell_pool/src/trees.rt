@@ -55,8 +55,8 @@ fn block_of(cells: &[Cell], name: CellId) -> Option<u64> {
     Some(cells.get(name.0 as usize)?.block)
 }
 
-// Returns whether two block numbers are in one region. A cell is a landmark if the cell before it is
-// in another region; the first cell of a chain is no landmark.
+// Returns whether two block numbers are in one region. A cell is a landmark if the cell before it
+// is in another region; the first cell of a chain is no landmark.
 fn is_one_region(before: u64, block: u64) -> bool {
     before / REGION == block / REGION
 }
@@ -167,7 +167,7 @@ impl Trees {
         }
     }
 
-    /// Updates the landmarks after `taken`, with this block number, was inserted behind a cell with
+    /// Updates the landmarks after `taken`, with this block number, was inserted after a cell with
     /// block number `before`.
     #[inline]
     pub(crate) fn mark_taken(
@@ -183,7 +183,7 @@ impl Trees {
         }
     }
 
-    /// Updates the landmarks before `given`, with this block number, is freed behind a cell with
+    /// Updates the landmarks before `given`, with this block number, is freed after a cell with
     /// block number `before`.
     #[inline]
     pub(crate) fn unmark_given(

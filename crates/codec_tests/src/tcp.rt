@@ -1,4 +1,5 @@
-//! Segments with fields that all differ, each fault, options read and cleaned, and segments written.
+//! Segments with fields that all differ, each fault, options read and cleaned, and segments
+//! written.
 ghost use Rattle.std.specs.Prelude.{◌≡◌, []};
 
 use arrayvec::ArrayVec;
@@ -9,7 +10,8 @@ use tcp_codec::{
 };
 use wire_base::{Addr, Flags, protocol, pseudo_sum};
 
-/// `abcd` from port 40000 to port 80, PSH ACK, at the sequence number 1000 with the acknowledgment 5001.
+/// `abcd` from port 40000 to port 80, PSH ACK, at the sequence number 1000 with the acknowledgment
+/// 5001.
 const SEGMENT: [u8; 24] = [
     0x9c, 0x40, 0x00, 0x50, 0x00, 0x00, 0x03, 0xe8, 0x00, 0x00, 0x13, 0x89, 0x50, 0x18, 0x20, 0x00,
     0xe2, 0xc4, 0x00, 0x00, 0x61, 0x62, 0x63, 0x64,
@@ -201,9 +203,9 @@ fn the_first_window_scale_counts(rt: HostRuntime) -> Result<(), Fail> {
     Ok(())
 }
 
-// Known kinds and an unknown one; kinds of a SYN on another segment; wrong lengths; a second
-// option of a kind, also after one that was not kept; octets after the end option (RFC 9293
-// section 3.2, RFC 7323, RFC 2018).
+// Option areas (RFC 9293 section 3.2, RFC 7323, RFC 2018). Known kinds and an unknown one; kinds of
+// a SYN on another segment; wrong lengths. A second option of a kind, also after one that was not
+// kept; octets after the end option.
 #[test]
 fn options_are_kept_or_cleared(rt: HostRuntime) -> Result<(), Fail> {
     let rows: [(bool, &[u8], &[u8]); 17] = [

@@ -25,7 +25,8 @@ is_refuse (Begin era) = false
 is_refuse (Probe probe) = false
 is_refuse Refuse = true
 
--- an era that begins represents the list of the one segment, and a probe is the segment's cold probe
+-- an era that begins represents the list of the one segment, and a probe is the segment's cold
+-- probe
 abbrev pub AnswersTo : Seg → ColdAnswer → Type 0
 AnswersTo s (Begin era) = OfferedFor era (came s ∷ [])
 AnswersTo s (Probe probe) = probe ≡ cold_probe_of (came s)

@@ -1,4 +1,5 @@
--- Conditions of rules on a segment without a live era (this project's profile), and the probe of its host. None of them reads the octets.
+-- Conditions of rules on a segment without a live era (this project's profile), and the probe of
+-- its host. None of them reads the octets.
 use Rattle.std.specs.Prelude.{◌&&◌, ◌||◌, not, Bool}
 use Rattle.wire_base.specs.Tcp as tcp
 use Rattle.wire_base.specs.Segments.{Written}
@@ -22,7 +23,8 @@ is_asked w = w.inward && not (tcp.has_syn w.flags) && not (tcp.has_rst w.flags)
 abbrev pub begins_warm : Written → Bool
 begins_warm w = acknowledges w && not (tcp.has_rst w.flags)
 
--- The cold probe finds out whether a host holds the connection of an inbound segment: a host that does answers a number below the one that it awaits with an
--- ACK, a host that does not answers with a RST (RFC 9293 sections 3.10.7.4 and 3.10.7.1).
+-- The cold probe finds out whether a host holds the connection of an inbound segment. A host that
+-- holds it answers a number below the one that it awaits with an ACK, and any other host with a RST
+-- (RFC 9293 sections 3.10.7.4 and 3.10.7.1).
 abbrev pub cold_probe_of : Written → Probe
 cold_probe_of w = record { seq = number_before w.seq; ack = w.ack; window = w.window }

@@ -7,7 +7,8 @@ use Rattle.dgram_rules.specs.declared.judged.DgramJudged.TheVariants.{Pass, Mend
 use Rattle.ip_rules.specs.Datagrams.{Datagram}
 use Rattle.dgram_rules.specs.Rows.{u_short, u_len, u_sum, u_sum_out, m_short, m_sum, m_type, m_quote}
 
--- the result for UDP: the first drop rule that holds drops the datagram, else U_SUM_OUT rewrites its checksum if it holds, else the datagram passes
+-- the result for UDP: the first drop rule that holds drops the datagram, else U_SUM_OUT rewrites
+-- its checksum if it holds, else the datagram passes
 abbrev pub udp_judged : PlainSettings → Datagram → DgramJudged
 udp_judged settings d =
     if u_short d then Drop rules.UShort

@@ -22,8 +22,8 @@ is_mend (Drop rule) = false
 is_mend Mend = true
 is_mend Pass = false
 
--- the result is that of the rules: it drops by a rule exactly if that is the first drop rule that holds, and if none holds, it rewrites the checksum exactly if
--- the fix rule holds
+-- The result is that of the rules. It drops by a rule exactly if that is the first drop rule that
+-- holds. If none holds, it rewrites the checksum exactly if the fix rule holds.
 pub record Tells (dropped : Option Rule) (mended : Bool) (answer : DgramJudged) : Type 0 where
   pub drops : dropped ≡ row_in answer
   pub mends : dropped ≡ None → mended ≡ is_mend answer
@@ -34,7 +34,7 @@ DatagramsTellTheRows =
     (settings : PlainSettings) (live : Bool) (d : Datagram)
     → Tells (dgram_dropped_by settings live d) (holds_dgram settings live d rules.USumOut) (dgram_judged settings live d)
 
--- no rule holds of a datagram of another protocol, and none drops it
+-- no rule applies to a datagram of another protocol, and none drops it
 abbrev pub OthersHaveNoRow : Type 0
 OthersHaveNoRow =
     (settings : PlainSettings) (live : Bool) (d : Datagram) → d.head.protocol ≢ 17 → d.head.protocol ≢ 1

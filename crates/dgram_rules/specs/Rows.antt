@@ -1,6 +1,7 @@
--- The rules on UDP and ICMP, one definition each, in the order of their numbers (this project's profile). A rule depends on one whole datagram, the settings,
--- and whether the TCP connection that an ICMP error quotes has a live era. That the rules on UDP hold only of UDP, and those on ICMP only of ICMP, is stated
--- once for all of them (`holds_dgram`).
+-- The rules on UDP and ICMP, one definition each, in the order of their numbers (this project's
+-- profile). A rule depends on one whole datagram, the settings, and whether the TCP connection that
+-- an ICMP error quotes has a live era. The rules on UDP apply only to UDP, and those on ICMP only
+-- to ICMP; this is stated once for all of them (`holds_dgram`).
 use Rattle.std.specs.Prelude.{ℕ, ◌==◌, ◌&&◌, ◌||◌, not, Bool, true, false, length, Option, Some, None, find}
 use Rattle.wire_base.specs.Sums.{pseudo_sum}
 use Rattle.wire_base.specs.Udp as udp
@@ -18,7 +19,8 @@ use Rattle.ip_rules.specs.Datagrams.{Datagram, goes_in}
 abbrev pub pseudo_of : Datagram → ℕ
 pseudo_of d = pseudo_sum d.head.src.0 d.head.dst.0 d.head.protocol (length d.octets)
 
--- the sender made a UDP checksum, and the sum is wrong (RFC 768: a checksum of 0 means that the sender made none)
+-- the sender made a UDP checksum, and it is wrong (RFC 768: a checksum of 0 means that the sender
+-- made none)
 abbrev pub has_wrong_sum : Datagram → Bool
 has_wrong_sum d = udp.has_wrong_sum (pseudo_of d) d.octets
 
@@ -42,11 +44,12 @@ u_sum settings d = has_wrong_sum d && not (is_offloaded settings d)
 abbrev pub m_short : Datagram → Bool
 m_short d = icmp.is_short d.octets
 
--- M_SUM: the sum over the whole message is wrong
+-- M_SUM: the checksum over the whole message is wrong
 abbrev pub m_sum : Datagram → Bool
 m_sum d = icmp.has_wrong_sum d.octets
 
--- the types of the errors that quote a packet: destination unreachable, time exceeded, parameter problem (RFC 792)
+-- the types of the errors that quote a packet: destination unreachable, time exceeded, parameter
+-- problem (RFC 792)
 abbrev pub is_error : (kind : ℕ) → Bool
 is_error kind = (kind == 3) || (kind == 11) || (kind == 12)
 
@@ -58,8 +61,8 @@ is_query kind = (kind == 0) || (kind == 8) || (kind == 13) || (kind == 14)
 abbrev pub m_type : Datagram → Bool
 m_type d = not (is_error (icmp.kind d.octets) || is_query (icmp.kind d.octets))
 
--- an error does not quote a packet that went outwards: the quote is not readable, its source is not trusted, its destination is trusted, or it is TCP of a
--- connection without a live era
+-- an error does not quote a packet that went outwards: the quote is not readable, its source is not
+-- trusted, its destination is trusted, or it is TCP of a connection without a live era
 abbrev pub is_stray : PlainSettings → (live : Bool) → Option QuotedKey → Bool
 is_stray settings live None = true
 is_stray settings live (Some quote) =
@@ -73,7 +76,8 @@ m_quote settings live d = goes_in d.side && is_error (icmp.kind d.octets) && is_
 abbrev pub u_sum_out : PlainSettings → Datagram → Bool
 u_sum_out settings d = is_offloaded settings d && has_wrong_sum d
 
--- whether a rule on UDP or ICMP holds of a datagram: its protocol is 17 or 1, and the condition of the rule holds; other rules do not hold
+-- whether a rule on UDP or ICMP applies to a datagram: its protocol is 17 or 1, and the condition
+-- of the rule holds; other rules do not hold
 abbrev pub holds_dgram : PlainSettings → (live : Bool) → Datagram → Rule → Bool
 holds_dgram settings live d rules.UShort = (d.head.protocol == 17) && u_short d
 holds_dgram settings live d rules.ULen = (d.head.protocol == 17) && u_len d

@@ -1,7 +1,7 @@
 //! The results of judging a datagram by the rules on UDP and ICMP.
 use rule_book::Rule;
 
-/// The result of judging a whole datagram; no rule holds of one that is neither UDP nor ICMP.
+/// The result of judging a whole datagram; no rule applies to one that is neither UDP nor ICMP.
 #[derive(Clone, Copy, Debug, PartialEq, Eq)]
 pub enum DgramJudged {
     /// No drop rule and no fix rule holds.

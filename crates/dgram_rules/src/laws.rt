@@ -7,7 +7,7 @@ pub fn datagrams_tell_the_rows()
     ensures { DatagramsTellTheRows }
 {}
 
-/// States that no rule holds of a datagram of another protocol.
+/// States that no rule applies to a datagram of another protocol.
 pub fn others_have_no_row()
     ensures { OthersHaveNoRow }
 {}

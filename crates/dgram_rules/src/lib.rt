@@ -2,7 +2,8 @@
 //!
 //! Proved: `judge_udp` and `judge_icmp` drop a message under exactly the first of their rules that
 //! holds. A message that no rule drops gets a new checksum exactly if its UDP checksum is wrong, it
-//! goes outward, and `--offload` is set. No rule of this crate holds of another protocol (`laws`).
+//! goes outward, and `--offload` is set. No rule of this crate applies to another protocol
+//! (`laws`).
 #![tactic(auto)]
 
 pub mod judged;

@@ -18,7 +18,7 @@ use udp_codec::UdpFault;
 use wire_base::{Side, protocol, pseudo_sum};
 
 /// Judges a packet that carries UDP by the first rule that holds; returns `Mend` if that is
-/// U_SUM_OUT.
+/// U_SUM_OUT. Rules 23 to 25 and 47.
 #[inline(never)]
 pub fn judge_udp(settings: &Settings, packet: &IpPacket<'_>) -> DgramJudged
     ensures { (header : List ℕ) → result ≡ spec.udp_judged (plain_settings settings.now) (datagram_with header packet.now) }
@@ -54,7 +54,7 @@ fn is_offloaded(settings: &Settings, packet: &IpPacket<'_>) -> bool
 }
 
 /// Judges a packet that carries ICMP by the first rule that holds. `live` says whether an era is
-/// live for the TCP connection that it quotes.
+/// live for the TCP connection that it quotes. Rules 26 to 29.
 #[inline(never)]
 pub fn judge_icmp(settings: &Settings, packet: &IpPacket<'_>, live: bool) -> DgramJudged
     requires prefixes { All (λ prefix. prefix.len ≤ 32) settings.now.prefixes.items }

@@ -23,7 +23,7 @@ written_past (Some x) (Some y) buffer piece filled e p =
     let bare : (z : List ℕ) → z ++ take filled buffer ≡ z = λ z. ap (λ k. z ++ take k buffer) e ∙ append-nil z in
     bare y ∙ p ∙ ap (λ l. l ++ piece) (sym (bare x))
 
--- the first octets of a range, and those behind them
+-- the first octets of a range, and those after them
 pub range_parts : (xs : List ℕ) (start end count : ℕ) → start + count ≤ end → slice_range xs start end ≡ take count (drop start xs) ++ slice_range xs (start + count) end
 range_parts xs start end count fits =
     let e : end - start ≡ count + (end - (start + count)) = omega arith in

@@ -9,7 +9,8 @@ next_count count = min (count + 1) (2 ^ 64 - 1)
 abbrev pub Rose : ℕ → ℕ → Type 0
 Rose before now = next_count before ≤ now
 
--- The count never falls, a call that succeeds leaves it unchanged, and a call fails only if the count rose.
+-- The count never falls, a call that succeeds leaves it unchanged, and a call fails only if the
+-- count rose.
 pub record HasCause {T E : Type 0} (before now : ℕ) (result : Result T E) : Type 0 where
   pub later : before ≤ now
   pub kept : OnOk result (now ≡ before)

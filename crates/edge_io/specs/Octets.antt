@@ -4,7 +4,8 @@ use Rattle.std.specs.Prelude.{◌≡◌, None, ℕ, ◌<◌, ◌≤◌, List, le
 use Rattle.std.specs.Io.KnownBytes.{Consumes, Appends, Keeps, IsAtEnd}
 use Rattle.std.specs.declared.option.Option.{Option}
 
--- One fetch: it moved the first n octets left to the front of the buffer; n is 0 only at the end or if the buffer is empty. A fetch that fails takes none.
+-- One fetch: it moved the first n octets left to the front of the buffer; n is 0 only at the end or
+-- if the buffer is empty. A fetch that fails takes none.
 abbrev pub Fetches : {E : Type 0} → Option (List ℕ) → Option (List ℕ) → Result ℕ E → List ℕ → Type 0
 Fetches old new result buf = MatchResult result (λ n. (n ≤ length buf) × Consumes old new (take n buf) × (n ≡ 0 → 0 < length buf → IsAtEnd new)) (λ _. Keeps old new)
 
@@ -12,7 +13,8 @@ Fetches old new result buf = MatchResult result (λ n. (n ≤ length buf) × Con
 abbrev pub TakesFewer : Option (List ℕ) → Option (List ℕ) → ℕ → Type 0
 TakesFewer old new n = (octets : List ℕ) × Consumes old new octets × (length octets < n)
 
--- The buffer was filled from its front, or the source is at its end; a read that fails took fewer octets than the buffer has.
+-- The buffer was filled from its front, or the source is at its end; a read that fails took fewer
+-- octets than the buffer has.
 abbrev pub Fills : {E : Type 0} → Option (List ℕ) → Option (List ℕ) → Result ℕ E → List ℕ → Type 0
 Fills old new result buf = MatchResult result (λ n. (n ≤ length buf) × Consumes old new (take n buf) × (n < length buf → IsAtEnd new)) (λ _. TakesFewer old new (length buf))
 

@@ -1,4 +1,5 @@
--- The frames that are to be written for one record, in the order in which they were begun (this project's profile).
+-- The frames that are to be written for one record, in the order in which they were begun (this
+-- project's profile).
 use Rattle.std.specs.Prelude.{ℕ, List, [], ◌∷◌, ◌++◌}
 
 -- the octets of the last frame; none if there is no frame

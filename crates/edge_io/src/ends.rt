@@ -14,8 +14,8 @@ pub trait Source {
     /// The number of failed calls.
     ghost fault_count: { Self → ℕ };
 
-    /// Moves the first octets left to the front of the buffer. Returns their number.
-    /// If it returns 0 for a buffer that is not empty, the source is at its end.
+    /// Moves the first octets left to the front of the buffer. Returns their number. If it returns
+    /// 0 for a buffer that is not empty, the source is at its end. If it fails, no octet was taken.
     fn fetch(&mut self, buf: &mut [u8]) -> Result<usize, Failed>
         ensures octets { Fetches (left self.old) (left self.new) result buf.new }
         ensures cause { HasCause (fault_count self.old) (fault_count self.new) result };
@@ -24,7 +24,9 @@ pub trait Source {
     fn faults(&self) -> u64
         ensures { result ≡ fault_count self.now };
 
-    /// Returns whether the next call may wait for the outside.
+    /// Returns whether the next call may wait for the outside. False by default and for octets in
+    /// memory; a `BufferedSource` returns whether its read buffer is empty. No clause depends on
+    /// it.
     fn may_wait(&self) -> bool {
         false
     }

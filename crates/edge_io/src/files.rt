@@ -123,7 +123,9 @@ impl<R: Read + Drop> Source for BufferedSource<R> {
     }
 }
 
-/// A writer outside the program, with a write buffer. Its octets are not known.
+/// A writer outside the program, with a write buffer. Its octets are not known. Octets may stay in
+/// the buffer until `flush`; dropping the sink writes none. After a failed write the buffered
+/// octets are discarded.
 #[derive(Drop)]
 pub struct BufferedSink<W> {
     /// The writer, or why there is none.
@@ -147,8 +149,8 @@ impl<W: Write + Drop> BufferedSink<W> {
         BufferedSink::opened(there(end))
     }
 
-    /// Returns a sink over the writer that was opened. If the opening failed, every call fails by its
-    /// error.
+    /// Returns a sink over the writer that was opened. If the opening failed, every call fails by
+    /// its error.
     pub fn opened(end: io::Result<W>) -> BufferedSink<W>
         ensures { result ≡ record { is_there = is_ok end; faults = 0 } }
     {

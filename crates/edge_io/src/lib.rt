@@ -1,21 +1,21 @@
 //! Sources and sinks of octets with a count of faults, and the outbox for the frames of one record.
 //!
 //! Proved of every `Source` and `Sink`: a call fails only if the count of faults rises in it or is
-//! at the last value of its `u64`; no count falls; a call that succeeds leaves its count unchanged.
+//! at the last value of its `u64`. No count falls. A call that succeeds leaves its count unchanged.
 //! Proved of one with known octets, that is, whose `left` or `held` is a list: `fetch` moves the
-//! first octets left into the buffer, and takes none if it fails; `put` appends its argument, or a
-//! prefix of it if it fails; `flush` changes nothing and does not fail. `MemSource` and `MemSink`
-//! fail exactly at the calls that their lists name (the sink also if the octets do not fit); every
-//! other call moves the octets that the contract names. `read_full` fills the buffer or reaches the
-//! end of the source. An `Outbox` is the list of the frames put into it: at most two, of at most
-//! 65,549 octets each.
+//! first octets left into the buffer, and takes none if it fails. `put` appends its argument, or a
+//! prefix of it if it fails. `flush` changes nothing and does not fail. `MemSource` and `MemSink`
+//! fail exactly at the calls that their lists name (the sink does so too if the octets do not fit).
+//! Every other call moves the octets that the contract names. `read_full` fills the buffer or
+//! reaches the end of the source. An `Outbox` is the list of the frames put into it: at most two,
+//! of at most 65,549 octets each.
 //!
 //! `FileSource`, `FileSink` and `LineOut` have no known octets, so no public clause describes the
-//! octets of a file. Their clauses state that every call without a file fails, how the count of
-//! faults changes, that there is a last error if and only if a call failed, and that a fetch returns
-//! at most the length of the buffer. No clause states which error that is. The private
-//! `ReadAhead` and `WriteBehind` are proved to keep buffered octets in order and to lose none
-//! unless a call fails, for readers and writers with known octets; for files this is tested.
+//! octets of a file. Their clauses state that every call without a file fails, and how the count of
+//! faults changes. There is a last error if and only if a call failed, and a fetch returns at most
+//! the length of the buffer. No clause states which error that is. The private `ReadAhead` and
+//! `WriteBehind` are proved to keep buffered octets in order and to lose none unless a call fails,
+//! for readers and writers with known octets; for files this is tested.
 //!
 //! Choices: a write is repeated by std's `write_all`, which refuses a write that takes nothing; an
 //! interrupted read is tried 1,000 times. `Sink::flush` does nothing by default, since a sink with

@@ -16,7 +16,7 @@ fn is_listed(failing: &[u32], calls: u64) -> bool
     failing.iter().any(|number| u64::from(*number) == call)
 }
 
-/// Octets in memory, of which one call returns at most `piece`.
+/// Octets in memory; one call returns at most `piece` of them.
 #[derive(Drop)]
 pub struct MemSource {
     bytes: Vec<u8>,
@@ -42,7 +42,8 @@ impl Model for MemSource {
 }
 
 impl MemSource {
-    /// Returns a source of these octets. It fails at the calls whose numbers, counted from 1, are in `fails`.
+    /// Returns a source of these octets. It fails at the calls whose numbers, counted from 1, are
+    /// in `fails`. Calls with an empty buffer count.
     pub fn new(bytes: Vec<u8>, piece: usize, fails: Vec<u32>) -> MemSource
         requires { 0 < piece }
         ensures { result ≡ record {
@@ -131,7 +132,9 @@ impl Model for MemSink {
 }
 
 impl MemSink {
-    /// Returns a sink for at most `room` octets. It fails at the puts whose numbers, counted from 1, are in `fails`.
+    /// Returns a sink for at most `room` octets. It fails at the puts whose numbers, counted from
+    /// 1, are in `fails`. Such a put appends nothing. One that does not fit fails, too, and appends
+    /// what fits. A flush never fails.
     pub fn new(alloc: Global, room: usize, fails: Vec<u32>) -> Result<MemSink, NoMemory>
         ensures { IfOk result (λ sink. sink ≡ record {
           held = [];

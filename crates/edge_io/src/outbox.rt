@@ -3,11 +3,12 @@ use crate::NoMemory;
 use std::alloc::Global;
 use std::marker::Model;
 
-/// Length of the longest frame in octets: an Ethernet header (14) and a packet of 65,535 (RFC 791 section 3.1).
+/// Length of the longest frame in octets: an Ethernet header (14) and a packet of 65,535 (RFC 791
+/// section 3.1).
 pub const MAX_FRAME: usize = 65_549;
 
-/// At most two frames of at most 65,549 octets each. Its value is the list of their octets, in the order in which the
-/// frames were begun. It allocates all its memory when it is opened.
+/// At most two frames of at most 65,549 octets each. Its value is the list of their octets, in the
+/// order in which the frames were begun. It allocates all its memory when it is opened.
 #[derive(Drop)]
 pub struct Outbox {
     first: Vec<u8>,

@@ -1,4 +1,5 @@
--- The inward packets of an era stay near Acked before the record of each, and Acked never goes back.
+-- The inward packets of an era stay near Acked before the record of each, and Acked never goes
+-- back.
 use Rattle.std.proofs.Common.{◌≡◌, ◌⊎◌, inl, inr, ⊎_elim, ℕ, zero, suc, ◌+◌, ◌^◌, ◌≤◌, Bool, true, false, ◌&&◌, not, Option, Some, None, List, [], ◌∷◌, ◌++◌, length, map, refl, ap, sym, ◌∙◌, subst, arith, append-nil, All, ℤ, pos, ◌≤ℤ◌, slice_get, if◌then◌else◌}
 use Rattle.std.proofs.lemmas.List.Elements.{All-head, All-tail}
 use Rattle.std.proofs.lemmas.Option.{slice_get_within}

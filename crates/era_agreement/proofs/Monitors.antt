@@ -50,7 +50,7 @@ covers_before :
 covers_before hops base start places later frames more seen ended one_each covers other schedule stream its_end near h =
     covers other schedule stream its_end near (delivers_more places later other.distance base start frames more schedule stream its_end one_each h)
 
--- what is covered is not longer
+-- the covered stream is not longer
 reads_further :
     (start : ℕ) (seen stream : List ℕ) (seen_ended ended : Bool) → Covers seen seen_ended stream ended →
     read_to start stream ended ≤ read_to start seen seen_ended

@@ -1,4 +1,5 @@
--- Emitted segments describe one stream, so all receivers agree on it and read parts of it, and a monitor misses nothing.
+-- Emitted segments describe one stream, so all receivers agree on it and read parts of it, and a
+-- monitor misses nothing.
 use Rattle.std.proofs.Common.{◌≡◌, ◌⊎◌, ℕ, ◌+◌, ◌%◌, ◌^◌, List, [], ◌∷◌, ◌++◌, length, Some, None, true, false, refl, ap, sym, ◌∙◌, arith, ⊎_elim, Option, Bool, ◌&&◌, not, map, subst, append-nil, ℤ, pos, ◌+ℤ◌, IsTrue, slice_get, All, if◌then◌else◌, IfSome, ◌<ℤ◌}
 use Rattle.std.proofs.lemmas.Option.{slice_get_past}
 use Rattle.std.proofs.lemmas.List.Elements.{All-nil, All-cons, All-head, All-tail, All-append}
@@ -29,7 +30,8 @@ pub record EraLaws : Type 0 where
   pub joins : EmittedJoins
   pub told : EmittedIsTold
 
--- its octets are the first at their offsets, its FIN is the end, and its SYN has the number before the base
+-- its octets are the first at their offsets, its FIN is the end, and its SYN has the number before
+-- the base
 pub record IsTold (base : ℕ) (ws : List Written) (place : ℤ) (s : Segment) : Type 0 where
   pub placed : IsPlace base s.sequence place
   pub octets : (index octet : ℕ) → slice_get s.octets index ≡ Some octet → first base ws (place +ℤ pos index) ≡ Some octet

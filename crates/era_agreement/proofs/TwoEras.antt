@@ -1,4 +1,4 @@
--- Two eras of which the second goes on past the first are read as one stream.
+-- Two eras are read as one stream if the second goes on past the first.
 use Rattle.std.proofs.Common.{◌≡◌, false, true, Bool, ◌⊎◌, ⊎_elim, inl, inr, ℕ, zero, suc, ◌+◌, ◌%◌, ◌^◌, ◌<◌, ◌≤◌, List, [], ◌∷◌, ◌++◌, length, map, Some, None, Option, refl, ap, sym, ◌∙◌, subst, arith, length-append, ℤ, pos, negsuc, ◌+ℤ◌, ◌-ℤ◌, ◌≤ℤ◌, ◌<ℤ◌, IsTrue, IfSome, slice_get, All}
 use Rattle.std.proofs.lemmas.List.{length-map}
 use Rattle.std.proofs.lemmas.List.Elements.{All-nil, All-cons, All-head, All-tail, All-append}
@@ -86,8 +86,8 @@ fin_split d zs ys ps qs long o c =
 
 -- Two streams on one line.
 
--- Each stream is that of its packets; the octets of the first are before the shift, and those of the second and its end not below 0; the first has no FIN, and
--- the second no SYN.
+-- Each stream is that of its packets. The octets of the first are before the shift, and those of
+-- the second and its end not below 0. The first has no FIN, and the second no SYN.
 record Two (hops base next d : ℕ) (zs ys : List ℤ) (ps qs : List (List ℕ)) (one two : ℤ → Option ℕ) (end : Option ℤ) : Type 0 where
   tell : TellOneStream hops base zs ps
   octets : (o : ℤ) (x : ℕ) → OctetAt zs ps o x → one o ≡ Some x

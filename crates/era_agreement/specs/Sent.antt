@@ -1,12 +1,15 @@
--- What was sent, and which of it belongs to an era (this project's profile). Lists of what was sent have the last element at the head.
+-- What was sent, and which of it belongs to an era (this project's profile). Lists of what was sent
+-- have the last element at the head.
 use Rattle.std.specs.Prelude.{ℕ, ◌==◌, ◌&&◌, not, Bool, false, List, [], ◌∷◌, ◌++◌, map, ℤ, pos, Option, Some, None, if◌then◌else◌}
 use Rattle.std.specs.List.{flat_map}
 use Rattle.wire_base.specs.Segments.{Segment, Written, segment_of, written_of}
 use Rattle.era_state.specs.Offsets.{off}
 use Rattle.era_state.specs.Quantities.{acked}
 
--- The packets sent for one record, in order: whether they went inwards, the era that they belong to, if any, and whether they are written segments of it. A
--- probe sent for a dropped record is not a written segment: receivers read it, but it neither fixes the base nor moves Acked, the greatest offset acknowledged.
+-- The packets sent for one record, in order: whether they went inwards, the era that they belong
+-- to, if any, and whether they are written segments of it. A probe sent for a dropped record is not
+-- a written segment: receivers read it, but it neither fixes the base nor moves Acked, the greatest
+-- offset acknowledged.
 pub record Sent : Type 0 where
   pub inward : Bool
   pub era : Option ℕ
@@ -42,7 +45,8 @@ abbrev pub written_in : (era : ℕ) → List Sent → List Written
 written_in era [] = []
 written_in era (s ∷ older) = written_in era older ++ (if is_era era s.era && s.written then segments_in s.inward s.packets else [])
 
--- the offset of a segment's first octet, of those that its number represents the one nearest to Acked; 0 if there is no segment
+-- the offset of a segment's first octet, of those that its number represents the one nearest to
+-- Acked; 0 if there is no segment
 abbrev pub placed_at : (base acked : ℕ) → Option Segment → ℤ
 placed_at base acked None = pos 0
 placed_at base acked (Some s) = off base acked s.sequence
@@ -51,8 +55,9 @@ placed_at base acked (Some s) = off base acked s.sequence
 abbrev pub place_of : (base acked : ℕ) → List ℕ → ℤ
 place_of base acked p = placed_at base acked (segment_of p)
 
--- The offsets of the packets that went inwards in an era, each the one nearest to Acked before its record. Before the base is fixed Acked is 0, since no ACK was
--- sent outwards in the era: in the traces of norm the first one fixes the base, and a RST with ACK ends the era.
+-- The offsets of the packets that went inwards in an era, each the one nearest to Acked before its
+-- record. Before the base is fixed Acked is 0, since no ACK was sent outwards in the era. In the
+-- traces of norm the first one fixes the base, and a RST with ACK ends the era.
 abbrev pub inward_places : (era base : ℕ) → List Sent → List ℤ
 inward_places era base [] = []
 inward_places era base (s ∷ older) =

@@ -1,5 +1,6 @@
--- Two eras, of which the second goes on where the first ended (this project's profile). The definitions are of any two eras; they are meant for two of one
--- four-tuple, of which the second began without a SYN after the first had ended by `idle` or `evicted`. Each era is counted from its own base; `shift` is the
+-- Two eras; the second goes on where the first ended (this project's profile). The definitions are
+-- of any two eras; they are meant for two of one four-tuple, whose second began without a SYN after
+-- the first had ended by `idle` or `evicted`. Each era is counted from its own base; `shift` is the
 -- offset of the second's base on the line of the first, which may be more than 2^32.
 use Rattle.std.specs.Prelude.{◌≡◌, ℕ, ◌+◌, ◌≤◌, Bool, true, false, List, length, ◌++◌, map, All, ℤ, pos, ◌+ℤ◌, ◌-ℤ◌, ◌<ℤ◌, Option, Some, None, option_map, slice_get}
 use Rattle.std.specs.Option.{option_or}
@@ -21,8 +22,9 @@ pub record IsAcknowledged (base : ℕ) (ws : List Written) : Type 0 where
   pub octets : top base ws ≤ acked base ws
   pub fin : (offset : ℤ) → end_of base ws ≡ Some offset → offset <ℤ pos (acked base ws)
 
--- Both eras have a base, and all of the first is acknowledged. The base of the second is at `shift` on the line of the first: of the offsets that its number
--- represents the one nearest to what was acknowledged in the first. It is not before that.
+-- Both eras have a base, and all of the first is acknowledged. The base of the second is at `shift`
+-- on the line of the first: of the offsets that its number represents the one nearest to what was
+-- acknowledged in the first. It is not before that.
 pub record GoesOnPast (era later base next shift : ℕ) (sent : List Sent) : Type 0 where
   pub based : base_of (written_in era sent) ≡ Some base
   pub based_later : base_of (written_in later sent) ≡ Some next
@@ -34,8 +36,8 @@ pub record GoesOnPast (era later base next shift : ℕ) (sent : List Sent) : Typ
 abbrev pub shifted : (shift : ℕ) → ℤ → ℤ
 shifted shift offset = offset +ℤ pos shift
 
--- No octet that was written inwards in the second era is at an offset, on the line of the first, that this receiver of the first has read, nor before one, nor
--- at or before the offset of its end.
+-- Each octet that was written inwards in the second era is, on the line of the first, after every
+-- offset that this receiver of the first has read, and after the offset of its end.
 pub record IsBehind (later next start shift : ℕ) (stream : List ℕ) (ended : Bool) (sent : List Sent) : Type 0 where
   pub octets :
       (index read : ℕ) → slice_get stream index ≡ Some read → (offset : ℤ) (octet : ℕ)
@@ -44,7 +46,8 @@ pub record IsBehind (later next start shift : ℕ) (stream : List ℕ) (ended : 
       ended ≡ true → (offset : ℤ) (octet : ℕ) → OctetAt (inward_places later next sent) (inward_packets later sent) offset octet
       → pos (start + length stream) <ℤ shifted shift offset
 
--- this holds of each receiver of the first era, from whichever offset it starts, whichever of its packets reach it in time, how often and in which order
+-- this holds for each receiver of the first era, from whichever offset it starts, whichever of its
+-- packets reach it in time, how often and in which order
 abbrev pub IsNotReadAgain : (hops era later base next shift : ℕ) → List Sent → Type 0
 IsNotReadAgain hops era later base next shift sent =
     (member : Member) (start : ℕ) (schedule stream : List ℕ) (ended : Bool) → IsMember hops member
@@ -76,8 +79,9 @@ octet_of_both shift one two offset = option_or (one offset) (two (offset -ℤ po
 abbrev pub end_of_both : (shift : ℕ) → Option ℤ → Option ℤ
 end_of_both shift end = option_map (shifted shift) end
 
--- The packets of both eras are read as those of one: any two receivers agree on them, each reads a part of one stream, and a monitor that hears them in time
--- misses nothing, whichever of them reach each receiver in time on this line, how often and in which order.
+-- The packets of both eras are read as those of one. Any two receivers agree on them, each reads a
+-- part of one stream, and a monitor that hears them in time misses nothing. It does not matter
+-- which of them reach each receiver in time on this line, how often and in which order.
 pub record AreReadAsOne (hops era later base next shift : ℕ) (sent : List Sent) : Type 0 where
   pub agree : EraAgrees hops base (places_of_both era later base next shift sent) (packets_of_both era later sent)
   pub reads :
@@ -97,8 +101,8 @@ EmittedErasAreReadAsOne =
     (hops era later base next shift : ℕ) (sent : List Sent) → IsEmittedEra hops era sent → IsEmittedEra hops later sent
     → GoesOn era later base next shift sent → AreReadAsOne hops era later base next shift sent
 
--- Of an era in which all is acknowledged: a receiver that has read up to what was acknowledged, or past it, has read exactly up to there. So any two such
--- receivers go on at the same offset.
+-- Of an era in which all is acknowledged: a receiver that has read up to what was acknowledged, or
+-- past it, has read exactly up to there. So any two such receivers go on at the same offset.
 abbrev pub EmittedIsReadToAcked : Type 0
 EmittedIsReadToAcked =
     (hops era base : ℕ) (sent : List Sent) (member : Member) (start : ℕ) (schedule stream : List ℕ) (ended : Bool)

@@ -1,4 +1,5 @@
--- Emitted segments: how far they are from Acked and from the windows, and that each octet is the first at its offset.
+-- Emitted segments: how far they are from Acked and from the windows, and that each octet is the
+-- first at its offset.
 use Rattle.std.proofs.Common.{◌≡◌, ℕ, ◌+◌, ◌*◌, ◌^◌, ◌<◌, ◌≤◌, List, [], ◌∷◌, ◌++◌, length, Option, Some, None, Bool, true, false, ◌&&◌, refl, sym, ◌∙◌, ap, arith, subst, ◌⊎◌, inl, inr, ⊎_elim, ◌%◌, append-nil, max, ℤ, pos, negsuc, ◌+ℤ◌, ◌-ℤ◌, if◌then◌else◌, ◌<ℤ◌, slice_get, nat_lt, ◌≤ℤ◌}
 use Rattle.std.specs.Option.{option_or}
 use Rattle.std.proofs.Math.Nat.{max-zero}

@@ -1,4 +1,5 @@
--- The frame of a kept interval: its offset, octets and FIN, its era after it, and how many octets it adds.
+-- The frame of a kept interval: its offset, octets and FIN, its era after it, and how many octets
+-- it adds.
 use Rattle.std.proofs.Common.{◌≡◌, ℕ, ◌+◌, ◌*◌, ◌%◌, ◌^◌, ◌<◌, ◌≤◌, List, [], ◌∷◌, length, Option, Some, None, Bool, true, false, ◌&&◌, refl, sym, ◌∙◌, ap, subst, arith, ◌++◌, ◌-◌, ℤ, pos, negsuc, ◌+ℤ◌, ◌≤ℤ◌, if◌then◌else◌, nat_lt, max, ◌-ℤ◌, slice_get, nat_le, int_le, int_lt, is_none, is_some}
 use Rattle.std.specs.Option.{option_or}
 use Rattle.std.proofs.lemmas.Int.{ints}
@@ -37,7 +38,8 @@ pub record BoundsLie (b : Bounds) : Type 0 where
   pub small : b.edge ≤ b.acked + 65535 * 2 ^ 14
   pub end_lies : EndLies b.end b.top b.edge
 
--- it has the offset, octets and FIN of the interval of a segment with this sequence number and length, with or without FIN
+-- it has the offset, octets and FIN of the interval of a segment with this sequence number and
+-- length, with or without FIN
 pub record FrameIn (base : ℕ) (b : Bounds) (i : Interval) (frame : Written) : Type 0 where
   pub sequence : ℕ
   pub len : ℕ

@@ -1,4 +1,5 @@
--- Offsets: of sequence numbers and of windows, and those of an interval within the bounds of its era.
+-- Offsets: of sequence numbers and of windows, and those of an interval within the bounds of its
+-- era.
 use Rattle.std.proofs.Common.{◌≡◌, ℕ, ◌+◌, ◌-◌, ◌/◌, ◌%◌, ◌^◌, ◌<◌, ◌≤◌, Bool, true, false, refl, sym, subst, arith, ◌*◌, Option, Some, None, ◌∙◌, ap, length, ◌⊎◌, inl, inr, ⊎_elim, ℤ, pos, ◌-ℤ◌, nat_lt, max, min, negsuc, ◌+ℤ◌, ◌≤ℤ◌}
 use Rattle.std.proofs.lemmas.Int.{ints}
 use Rattle.std.proofs.lemmas.Bool.Decides.{nat_tests, Decides-int_eq}

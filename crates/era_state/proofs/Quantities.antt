@@ -1,4 +1,5 @@
--- The quantities of a list of segments: how one more segment changes each, and how many offsets have an octet.
+-- The quantities of a list of segments: how one more segment changes each, and how many offsets
+-- have an octet.
 use Rattle.std.proofs.Common.{◌≡◌, ℕ, List, [], ◌∷◌, ◌++◌, Option, Some, None, Bool, ◌||◌, refl, sym, ◌∙◌, ap, arith, append_assoc, append-nil, ◌&&◌, ◌+◌, ◌*◌, ◌^◌, true, false, zero, suc, ◌-◌, ◌<◌, ◌≤◌, length, not, cond, subst, max, fold, min, ℤ, is_some, if◌then◌else◌, pos, negsuc, ◌+ℤ◌, ◌-ℤ◌, is_none, nat_lt, nat_le}
 use Rattle.std.specs.Option.{option_or}
 use Rattle.std.specs.List.{list_any, count_by, range_with_len}

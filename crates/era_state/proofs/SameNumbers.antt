@@ -1,4 +1,5 @@
--- Lists of segments with the same numbers, as with a silent segment more, or with one of two that are read alike; and what later segments preserve.
+-- Lists of segments with the same numbers, as with a silent segment more, or with one of two that
+-- are read alike; and what later segments preserve.
 use Rattle.std.proofs.Common.{◌≡◌, ℕ, ◌+◌, ◌%◌, ◌^◌, List, [], ◌∷◌, ◌++◌, Option, Some, None, Bool, true, false, not, ◌||◌, ◌&&◌, refl, ◌∙◌, ap, length, sym, append_assoc, append-nil, arith, max, min, ℤ, pos, ◌+ℤ◌, ◌-ℤ◌, nat_lt, is_some, if◌then◌else◌}
 use Rattle.std.specs.Option.{option_or}
 use Rattle.std.proofs.Math.Bool.{or-false}
@@ -131,7 +132,7 @@ acked_same base ws w inward = acked_push base ws w ∙ (λ i. max (acked base ws
 pub edge_same : (base : ℕ) (ws : List Written) (w : Written) → w.inward ≡ true → edge base (ws ++ w ∷ []) ≡ edge base ws
 edge_same base ws w inward = edge_push base ws w ∙ (λ i. max (edge base ws) (edge_place (no_ack base (acked base ws) w inward i) (shift ws) w)) ∙ max-zero (edge base ws)
 
--- What holds of every era and its list.
+-- What holds for every era and its list.
 
 over_same : (e : w.Warm) (ws : List Written) → WarmFor e ws → is_over (acked e.base ws) (end_of e.base ws) (out_fin ws) ≡ is_over_in e
 over_same e ws h = λ i. is_over (sym h.acked_is i) (sym h.end_is i) (sym h.out_fin_is i)
@@ -142,7 +143,8 @@ states_are_the_lists (Offered e) ws h = record { state_is = sym (ap (λ b. state
 states_are_the_lists (Warm e) ws h = record { state_is = sym (ap (λ b. state_with b ws) h.0.base_is ∙ (λ i. if h.0.opened i then (if (over_same e ws h.0 ∙ h.1) i then closed else warm) else offered)); base_is = sym h.0.base_is; iss_is = h.0.iss_is }
 states_are_the_lists (Closed e) ws h = record { state_is = sym (ap (λ b. state_with b ws) h.base_is ∙ (λ i. if h.opened i then (if (over_same e.last ws h ∙ e.over) i then closed else warm) else offered)); base_is = sym h.base_is; iss_is = h.iss_is }
 
--- the number of octets of an era is its list's: before an offset is acknowledged, no octet was written
+-- the number of octets of an era is its list's: before an offset is acknowledged, no octet was
+-- written
 pub octets_are_the_lists : (e : Era) (ws : List Written) → StandsFor e ws → octets_in e ≡ octets_of ws
 octets_are_the_lists (Called e) ws h = sym (ap (λ b. octets_with b ws) h.unbased)
 octets_are_the_lists (Offered e) ws h = sym (ap (λ b. octets_with b ws) h.base_is ∙ count_none e.base ws h.untouched.top_is)

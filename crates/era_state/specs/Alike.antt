@@ -6,7 +6,8 @@ use Rattle.era_state.specs.declared.era.Era.{Era}
 use Rattle.era_state.specs.Eras.{StandsFor}
 use Rattle.era_state.specs.Silence.{Same}
 
--- two inward segments have the same sequence number, octets, SYN and FIN; if they are SYNs, both have a window scale or neither has
+-- two inward segments have the same sequence number, octets, SYN and FIN; if they are SYNs, both
+-- have a window scale or neither has
 pub record IsAlike (w v : Written) : Type 0 where
   pub inward : w.inward ≡ true
   pub inward_too : v.inward ≡ true
@@ -16,7 +17,8 @@ pub record IsAlike (w v : Written) : Type 0 where
   pub fin_is : tcp.has_fin v.flags ≡ tcp.has_fin w.flags
   pub scale_is : tcp.has_syn w.flags ≡ true → is_some v.scale ≡ is_some w.scale
 
--- written after the same segments, they give the same quantities: the acknowledgment, the window, other flags and the shift of an inward SYN are not read
+-- written after the same segments, they give the same quantities: the acknowledgment, the window,
+-- other flags and the shift of an inward SYN are not read
 abbrev pub AlikeChangesAlike : Type 0
 AlikeChangesAlike = (ws : List Written) (w v : Written) → IsAlike w v → Same (ws ++ w ∷ []) (ws ++ v ∷ [])
 

@@ -49,7 +49,8 @@ pub record WarmCalled (w : Written) (old new : Warm) : Type 0 where
   pub out_fin_is : new.out_fin ≡ old.out_fin
   pub octets_are : new.octets ≡ old.octets
 
--- a frame with the octets and the FIN of an interval; `fresh` of these octets are the first at their offsets
+-- a frame with the octets and the FIN of an interval; `fresh` of these octets are the first at
+-- their offsets
 pub record WarmWith (i : Interval) (fresh : ℕ) (old new : Warm) : Type 0 where
   pub base_is : new.base ≡ old.base
   pub iss_is : new.iss ≡ old.iss

@@ -1,4 +1,5 @@
--- Which segments may be written in an era, each after those before it (this project's profile). `ws` are the segments of the era that were written so far.
+-- Which segments may be written in an era, each after those before it (this project's profile).
+-- `ws` are the segments of the era that were written so far.
 use Rattle.std.specs.Prelude.{◌≡◌, ℕ, ◌+◌, ◌%◌, ◌^◌, ◌<◌, ◌⊎◌, true, false, List, [], ◌∷◌, ◌++◌, pos, Some, slice_get}
 use Rattle.wire_base.specs.Segments.{Written}
 use Rattle.wire_base.specs.Tcp as tcp
@@ -12,15 +13,17 @@ pub record IsOutward (w : Written) : Type 0 where
   pub outward : w.inward ≡ false
   pub window : w.window < 2 ^ 16
 
--- an inward segment without octets and FIN; a SYN has the sequence number before the base of the list with it
+-- an inward segment without octets and FIN; a SYN has the sequence number before the base of the
+-- list with it
 pub record IsBare (ws : List Written) (w : Written) : Type 0 where
   pub inward : w.inward ≡ true
   pub no_fin : tcp.has_fin w.flags ≡ false
   pub no_octets : w.octets ≡ []
   pub syn : tcp.has_syn w.flags ≡ true → base_of (ws ++ w ∷ []) ≡ Some ((w.seq + 1) % 2 ^ 32)
 
--- The frame of an inbound segment `came` after a base is fixed: it has the offset, length and FIN of the kept interval, and each of its octets equals the first
--- octet at its offset, if there is one.
+-- The frame of an inbound segment `came` after a base is fixed. It has the offset, length and FIN
+-- of the kept interval, and each of its octets equals the first octet at its offset, if there is
+-- one.
 pub record IsKeptFrame (ws : List Written) (w : Written) : Type 0 where
   pub base : ℕ
   pub based : base_of ws ≡ Some base

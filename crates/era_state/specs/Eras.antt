@@ -89,8 +89,9 @@ pub record ForwardsIn (i : Interval) (fresh : ℕ) (old new : Era) : Type 0 wher
   pub is_last : last_in new ≡ Some is
   pub with : WarmWith i fresh was is
 
--- The transition of an outbound segment from an era that represents these segments: RST ends it, a SYN of another connection reopens it, and otherwise the next
--- era represents the list with the segment, whatever its octets.
+-- The transition of an outbound segment from an era that represents these segments. RST ends it,
+-- and a SYN of another connection reopens it. Otherwise the next era represents the list with the
+-- segment, whatever its octets.
 abbrev pub MovesTo : List Written → Seg → Moved → Type 0
 MovesTo ws s Reset = tcp.has_rst s.flags.0 ≡ true
 MovesTo ws s Reopen = (tcp.has_rst s.flags.0 ≡ false) × (reopens_outward ws (sent s []) ≡ true)
@@ -134,7 +135,7 @@ pub record IsOfList (e : Era) (ws : List Written) : Type 0 where
   pub base_is : base_in e ≡ base_of ws
   pub iss_is : iss_in e ≡ iss ws
 
--- this holds of every era and its list
+-- this holds for every era and its list
 abbrev pub StatesAreTheLists : Type 0
 StatesAreTheLists = (e : Era) (ws : List Written) → StandsFor e ws → IsOfList e ws
 

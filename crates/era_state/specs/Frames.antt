@@ -9,14 +9,16 @@ use Rattle.era_state.specs.Keeping.{frame_sequence_of}
 use Rattle.era_state.specs.Intervals.{Keeps}
 use Rattle.era_state.specs.Standing.{bounds_in}
 
--- the interval is one that the era computes in this state for a segment of some sequence number and length, with or without FIN
+-- the interval is one that the era computes in this state for a segment of some sequence number and
+-- length, with or without FIN
 pub record IsGiven (e : Warm) (i : Interval) : Type 0 where
   pub sequence : ℕ
   pub len : ℕ
   pub fin : Bool
   pub keeps : Keeps (bounds_in e) (off e.base e.acked sequence) len fin i
 
--- the frame of segment `w` after the segments written so far: as many octets as the interval, its FIN, and the sequence number of these
+-- the frame of segment `w` after the segments written so far: as many octets as the interval, its
+-- FIN, and the sequence number of these
 pub record IsFrame (ws : List Written) (w : Written) (i : Interval) (frame : Written) : Type 0 where
   pub inward : frame.inward ≡ true
   pub no_syn : tcp.has_syn frame.flags ≡ false

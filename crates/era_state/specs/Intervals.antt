@@ -6,13 +6,14 @@ use Rattle.era_state.specs.declared.interval.Interval.{Interval}
 use Rattle.era_state.specs.Keeping.{Bounds, bounds_of, offset_of, low, high, keeps_fin, begins_below, passes_window, passes_end}
 use Rattle.era_state.specs.Rules.{t_old, t_window, t_end}
 
--- which octets are forwarded, and whether the FIN is, of a segment at this offset, of this length, with or without FIN
+-- which octets are forwarded, and whether the FIN is, of a segment at this offset, of this length,
+-- with or without FIN
 pub record Spans (b : Bounds) (at : ℤ) (len : ℕ) (fin : Bool) (i : Interval) : Type 0 where
   pub lo_is : i.lo ≡ low b at
   pub hi_is : i.hi ≡ high b at len
   pub fin_is : i.fin ≡ keeps_fin b at len fin
 
--- these, and whether the three rules hold of the segment
+-- these, and whether the three rules apply to the segment
 pub record Keeps (b : Bounds) (at : ℤ) (len : ℕ) (fin : Bool) (i : Interval) : Type 0 where
   pub spans : Spans b at len fin i
   pub below_is : i.below ≡ begins_below b at len

@@ -1,5 +1,5 @@
--- Which octets of an inbound segment are forwarded, and whether its FIN is (this project's profile). `at` is the offset of the segment's sequence number, `len`
--- the number of its octets.
+-- Which octets of an inbound segment are forwarded, and whether its FIN is (this project's
+-- profile). `at` is the offset of the segment's sequence number, `len` the number of its octets.
 use Rattle.std.specs.Prelude.{ℕ, ◌+◌, ◌%◌, ◌^◌, ◌&&◌, ◌||◌, not, max, min, Bool, false, List, length, ℤ, pos, ◌+ℤ◌, Option, Some, None, nat_lt, int_lt, int_le, if◌then◌else◌}
 use Rattle.std.specs.Ordering.{int_eq}
 use Rattle.wire_base.specs.Tcp as tcp
@@ -43,7 +43,8 @@ reach b = up_to_end b.end (b.edge + 1)
 abbrev pub high : Bounds → ℤ → ℕ → ℕ
 high b at len = max (low b at) (min (nat_of (at +ℤ pos len)) (reach b))
 
--- a FIN at this offset is kept: at the end, if it is known; otherwise at or after Top and Acked, and at most at Edge
+-- a FIN at this offset is kept: at the end, if it is known; otherwise at or after Top and Acked,
+-- and at most at Edge
 abbrev pub is_kept_fin : Option ℤ → Bounds → ℤ → Bool
 is_kept_fin None b place = int_le (pos (max b.top b.acked)) place && int_le place (pos b.edge)
 is_kept_fin (Some end) b place = int_eq place end
@@ -69,7 +70,8 @@ ends_below (Some end) place = int_lt end place
 abbrev pub passes_end : Bounds → ℤ → ℕ → Bool → Bool
 passes_end b at len fin = (nat_lt 0 len && ends_below b.end (at +ℤ pos len)) || (fin && not (is_kept_fin b.end b (at +ℤ pos len)))
 
--- the sequence number of the frame: that of its first octet; that of its FIN if only this is forwarded; otherwise the segment's own
+-- the sequence number of the frame: that of its first octet; that of its FIN if only this is
+-- forwarded; otherwise the segment's own
 abbrev pub frame_sequence : (base : ℕ) → Bounds → ℤ → (sequence len : ℕ) → Bool → ℕ
 frame_sequence base b at sequence len fin =
     if nat_lt (low b at) (high b at len)

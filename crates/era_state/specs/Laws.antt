@@ -1,4 +1,5 @@
--- How one more segment changes the quantities of an era, and two of them also as maxima over the moments of the list.
+-- How one more segment changes the quantities of an era, and two of them also as maxima over the
+-- moments of the list.
 use Rattle.std.specs.Prelude.{◌≡◌, ℕ, ◌+◌, ◌-◌, ◌^◌, ◌≤◌, ◌<◌, ◌++◌, ◌∷◌, [], ◌&&◌, true, List, length, ℤ, pos, ◌+ℤ◌, ◌≤ℤ◌, Some, None, int_le, int_lt, slice_get, if◌then◌else◌}
 use Rattle.std.specs.Option.{option_or}
 use Rattle.wire_base.specs.Segments.{Written}
@@ -30,7 +31,7 @@ pub record OctetsLieBelowTop (base : ℕ) (ws : List Written) : Type 0 where
   pub none_past : (place : ℕ) → top base ws ≤ place → first base ws (pos place) ≡ None
   pub most : octet_count base ws ≤ top base ws
 
--- this holds of every list
+-- this holds for every list
 abbrev pub OctetsAreBelowTop : Type 0
 OctetsAreBelowTop = (base : ℕ) (ws : List Written) → OctetsLieBelowTop base ws
 
@@ -43,11 +44,12 @@ pub record Fits (ws : List Written) (w : Written) (i : Interval) : Type 0 where
   pub window : i.lo < i.hi → i.hi ≤ edge (base_at ws) ws + 1
   pub end : (place : ℕ) → end_of (base_at ws) ws ≡ Some (pos place) → i.lo < i.hi → i.hi ≤ place
 
--- this holds of every kept interval
+-- this holds for every kept interval
 abbrev pub IntervalsFit : Type 0
 IntervalsFit = (ws : List Written) (w : Written) (i : Interval) → KeptOf ws w i → Fits ws w i
 
--- kept octets are at offsets from Acked to below Acked + 2^30 + 1 (no window extends further), so their numbers are read as these offsets
+-- kept octets are at offsets from Acked to below Acked + 2^30 + 1 (no window extends further), so
+-- their numbers are read as these offsets
 abbrev pub KeptOctetsAreNear : Type 0
 KeptOctetsAreNear = (e : Warm) (ws : List Written) (w : Written) (i : Interval) → WarmFor e ws → KeptOf ws w i → i.lo < i.hi → (acked (base_at ws) ws ≤ i.lo) × (i.hi ≤ acked (base_at ws) ws + 2 ^ 30 + 1)
 

@@ -1,5 +1,5 @@
--- The contribution of one written segment to the quantities of its era. The stream is the inward direction; its base and Acked before the segment are
--- arguments.
+-- The contribution of one written segment to the quantities of its era. The stream is the inward
+-- direction; its base and Acked before the segment are arguments.
 use Rattle.std.specs.Prelude.{ℕ, ◌+◌, ◌*◌, ◌%◌, ◌^◌, ◌&&◌, not, Bool, true, false, List, length, ℤ, pos, ◌+ℤ◌, ◌-ℤ◌, Option, Some, None, slice_get, nat_lt, if◌then◌else◌}
 use Rattle.std.specs.Option.{option_or}
 use Rattle.wire_base.specs.Tcp as tcp
@@ -35,23 +35,27 @@ one_if false = 0
 abbrev pub number_behind : Written → ℕ
 number_behind w = (w.seq + length w.octets + one_if (tcp.has_syn w.flags) + one_if (tcp.has_fin w.flags)) % 2 ^ 32
 
--- the base that a written segment fixes if none is fixed yet: the number after an inbound SYN, or the acknowledgment of an outbound segment without RST
+-- the base that a written segment fixes if none is fixed yet: the number after an inbound SYN, or
+-- the acknowledgment of an outbound segment without RST
 abbrev pub fixes : Written → Option ℕ
 fixes w =
     if w.inward
     then (if tcp.has_syn w.flags then Some ((w.seq + 1) % 2 ^ 32) else None)
     else (if tcp.has_ack w.flags && not (tcp.has_rst w.flags) then Some w.ack else None)
 
--- the offset that an outbound segment with ACK acknowledges; None of another segment, or if it is below 0
+-- the offset that an outbound segment with ACK acknowledges; None of another segment, or if it is
+-- below 0
 abbrev pub ack_of : (base acked : ℕ) → Written → Option ℕ
 ack_of base acked w = if acknowledges w then natural (off base acked w.ack) else None
 
--- the end of its window, or 0 if it acknowledges no offset; the window of a SYN is not scaled (RFC 7323 section 2.2)
+-- the end of its window, or 0 if it acknowledges no offset; the window of a SYN is not scaled (RFC
+-- 7323 section 2.2)
 abbrev pub edge_place : Option ℕ → (shift : ℕ) → Written → ℕ
 edge_place None shift w = 0
 edge_place (Some place) shift w = place + w.window * (if tcp.has_syn w.flags then 1 else 2 ^ shift)
 
--- the offset after the octets of an inward segment, or 0 if there are none or all of them are below offset 0
+-- the offset after the octets of an inward segment, or 0 if there are none or all of them are below
+-- offset 0
 abbrev pub top_place : (base acked : ℕ) → Written → ℕ
 top_place base acked w = if w.inward && has_octets w then nat_of (off base acked w.seq +ℤ pos (length w.octets)) else 0
 

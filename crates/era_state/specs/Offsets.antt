@@ -1,4 +1,5 @@
--- Sequence numbers as signed offsets of a stream (RFC 9293 section 3.4: numbers are modulo 2^32; which multiple of 2^32 is meant is this project's profile).
+-- Sequence numbers as signed offsets of a stream (RFC 9293 section 3.4: numbers are modulo 2^32;
+-- which multiple of 2^32 is meant is this project's profile).
 use Rattle.std.specs.Prelude.{◌≡◌, ◌↔◌, ℕ, ◌+◌, ◌-◌, ◌%◌, ◌^◌, ◌<◌, ◌≤◌, ℤ, pos, negsuc, ◌+ℤ◌, ◌-ℤ◌, ◌*ℤ◌, ◌≤ℤ◌, ◌<ℤ◌, Option, Some, None, nat_lt, if◌then◌else◌}
 
 -- how far a number is past another, modulo 2^32
@@ -9,7 +10,8 @@ turn_past from number = (number + 2 ^ 32 - from % 2 ^ 32) % 2 ^ 32
 abbrev pub number_before : ℕ → ℕ
 number_before number = (number + (2 ^ 32 - 1)) % 2 ^ 32
 
--- Off: the offset from the base that a number represents: of those that differ by 2^32 the one from `at` - 2^31 to below `at` + 2^31, where `at` is Acked
+-- Off: the offset from the base that a number represents: of those that differ by 2^32 the one from
+-- `at` - 2^31 to below `at` + 2^31, where `at` is Acked
 abbrev pub off : (base at number : ℕ) → ℤ
 off base at number =
     if nat_lt (turn_past (base + at) number) (2 ^ 31)

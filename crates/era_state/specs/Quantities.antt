@@ -1,6 +1,7 @@
--- The quantities of an era: first and last elements, maxima and counts over the whole list of its written segments, in order (RFC 9293 sections 3.4 and 3.10
--- for numbers and windows, RFC 7323 section 2 for their scaling; which of them are kept is this project's profile). `base` is the number that Base fixes; the
--- numbers of a segment are read relative to Acked before it.
+-- The quantities of an era: first and last elements, maxima and counts over the whole list of its
+-- written segments, in order (this project's profile). RFC 9293 sections 3.4 and 3.10 have numbers
+-- and windows, RFC 7323 section 2 their scaling. `base` is the number that Base fixes; the numbers
+-- of a segment are read relative to Acked before it.
 use Rattle.std.specs.Prelude.{◌≡◌, ℕ, ◌-◌, ◌&&◌, max, min, Bool, false, List, fold, ℤ, pos, ◌+ℤ◌, Option, Some, None, is_none, is_some, nat_le, if◌then◌else◌}
 use Rattle.std.specs.List.{list_any, count_by, range_with_len}
 use Rattle.wire_base.specs.Segments.{Written}
@@ -13,12 +14,15 @@ use Rattle.wire_base.specs.declared.limits.TheConstants.{MAX_SHIFT}
 abbrev pub base_of : List Written → Option ℕ
 base_of ws = first_of fixes ws
 
--- Base, or 0 if none is fixed: then no forwarded inward segment has an octet, and no quantity below is used
+-- Base, or 0 if none is fixed: then no forwarded inward segment has an octet, and no quantity below
+-- is used
 abbrev pub base_at : List Written → ℕ
 base_at ws = number_in (base_of ws)
 
--- Acked: the greatest offset that an outbound segment acknowledges, each the one nearest to Acked before it, or 0 if none does. In an era that norm tracks the
--- first outbound segment with ACK fixes the base if nothing has before, so Acked is 0 until then; a RST with ACK fixes none, but ends the era.
+-- Acked: the greatest offset that an outbound segment acknowledges, each the one nearest to Acked
+-- before it, or 0 if none does. In an era that norm tracks the first outbound segment with ACK
+-- fixes the base if nothing has before, so Acked is 0 until then; a RST with ACK fixes none, but
+-- ends the era.
 abbrev pub acked : ℕ → List Written → ℕ
 acked base ws = fold (λ a w. max a (number_in (ack_of base a w))) 0 ws
 
@@ -46,8 +50,8 @@ in_scaled ws = list_any (λ (w : Written). is_inbound_syn w && is_some w.scale) 
 abbrev pub out_scale : List Written → ℕ
 out_scale ws = min MAX_SHIFT (greatest (λ (w : Written). if is_outbound_syn w then number_in w.scale else 0) ws)
 
--- the shift, from which sides' SYNs were written and which of them had a scale: both must have one (RFC 7323 section 2.2), and while a side's SYN is missing
--- the greatest shift, 14, is assumed
+-- The shift, from which sides' SYNs were written and which of them had a scale. Both must have one
+-- (RFC 7323 section 2.2). While a side's SYN is missing the greatest shift, 14, is assumed.
 abbrev pub shift_with : (out_seen in_seen out_scaled in_scaled : Bool) → ℕ → ℕ
 shift_with out_seen in_seen out_scaled in_scaled scale =
     if out_seen && in_seen then (if out_scaled && in_scaled then scale else 0) else MAX_SHIFT
@@ -72,7 +76,8 @@ first base ws offset = first_of (λ (m : Moment Written). octet_at base (acked b
 abbrev pub end_of : ℕ → List Written → Option ℤ
 end_of base ws = first_of (λ (m : Moment Written). fin_place base (acked base m.before) m.now) (moments ws)
 
--- Octets: how many offsets have an octet. A forwarded octet is at an offset from 0 to below Top (`EmittedOctetsArePlaces`), so these are counted
+-- Octets: how many offsets have an octet. A forwarded octet is at an offset from 0 to below Top
+-- (`EmittedOctetsArePlaces`), so these are counted
 abbrev pub octet_count : ℕ → List Written → ℕ
 octet_count base ws = count_by (λ n. is_some (first base ws (pos n))) (range_with_len 0 (top base ws))
 

@@ -1,5 +1,7 @@
--- Conditions of rules on one segment and one era (this project's profile): `ws` are the segments written of the era so far, `w` is the next one. Each is named
--- as its rule, in the order of the rules' numbers. The functions before them state the same in terms of an era's state, base and first SYN.
+-- Conditions of rules on one segment and one era (this project's profile): `ws` are the segments
+-- written of the era so far, `w` is the next one. Each is named as its rule, in the order of the
+-- rules' numbers. The functions before them state the same in terms of an era's state, base and
+-- first SYN.
 use Rattle.std.specs.Prelude.{ℕ, ◌+◌, ◌%◌, ◌^◌, ◌&&◌, ◌||◌, not, Bool, false, List, length, pos, Option, Some, None, nat_eq, int_le, if◌then◌else◌}
 use Rattle.wire_base.specs.Tcp as tcp
 use Rattle.wire_base.specs.Segments.{Written}
@@ -19,7 +21,8 @@ abbrev pub precedes : Option ℕ → ℕ → Bool
 precedes None sequence = false
 precedes (Some base) sequence = nat_eq ((sequence + 1) % 2 ^ 32) base
 
--- the number is not that of the first outbound SYN; if there was none, any number, unless the era is Offered
+-- the number is not that of the first outbound SYN; if there was none, any number, unless the era
+-- is Offered
 abbrev pub is_another : Option ℕ → State → ℕ → Bool
 is_another None state sequence = not (is_offered state)
 is_another (Some iss) state sequence = not (nat_eq iss sequence)
@@ -36,11 +39,13 @@ reopens_outward ws w = reopens_outward_at (state_of ws) (iss ws) w
 abbrev pub reopens_inward_at : State → Option ℕ → Written → Bool
 reopens_inward_at state base w = is_closed state && (is_inbound_syn w && not (tcp.has_ack w.flags)) && not (precedes base w.seq)
 
--- an inbound segment ends the era and begins a new one: a SYN that opens another connection, to a Closed era
+-- an inbound segment ends the era and begins a new one: a SYN that opens another connection, to a
+-- Closed era
 abbrev pub reopens_inward : List Written → Written → Bool
 reopens_inward ws w = reopens_inward_at (state_of ws) (base_of ws) w
 
--- an inbound segment without RST: to a Called era without SYN, or with an ACK that does not acknowledge the first outbound SYN; to an Offered era without SYN
+-- an inbound segment without RST: to a Called era without SYN, or with an ACK that does not
+-- acknowledge the first outbound SYN; to an Offered era without SYN
 abbrev pub is_early_at : State → Option ℕ → Written → Bool
 is_early_at state iss w =
     w.inward && not (tcp.has_rst w.flags)
@@ -51,7 +56,8 @@ is_early_at state iss w =
 abbrev pub t_state : List Written → Written → Bool
 t_state ws w = is_early_at (state_of ws) (iss ws) w
 
--- an inbound SYN that is not the one before the base, to an Offered or Warm era, or with ACK to a Closed one
+-- an inbound SYN that is not the one before the base, to an Offered or Warm era, or with ACK to a
+-- Closed one
 abbrev pub is_stray_at : State → Option ℕ → Written → Bool
 is_stray_at state base w = is_inbound_syn w && not (precedes base w.seq) && not (is_called state) && (not (is_closed state) || tcp.has_ack w.flags)
 
@@ -63,7 +69,8 @@ t_syn ws w = is_stray_at (state_of ws) (base_of ws) w
 abbrev pub is_awaited : (base acked next sequence : ℕ) → Bool
 is_awaited base acked next sequence = int_le (pos acked) (off base acked sequence) && int_le (off base acked sequence) (pos next)
 
--- a reset that acknowledges the first SYN of a Called era, or has an awaited sequence number in another era
+-- a reset that acknowledges the first SYN of a Called era, or has an awaited sequence number in
+-- another era
 abbrev pub takes_reset : List Written → Written → Bool
 takes_reset ws w =
     if is_called (state_of ws)

@@ -15,7 +15,8 @@ pub record SynsFor (s : Syns) (ws : List Written) : Type 0 where
   pub in_scaled_is : s.in_scale ≡ in_scaled ws
   pub out_scale_is : number_in s.out_scale ≡ out_scale ws
 
--- they are the old ones and those of one more segment: whether it is an outbound or an inbound SYN, and its window scale
+-- they are the old ones and those of one more segment: whether it is an outbound or an inbound SYN,
+-- and its window scale
 pub record SynsWith (outbound inbound : Bool) (scale : Option ℕ) (old new : Syns) : Type 0 where
   pub out_seen_is : new.out_seen ≡ (old.out_seen || outbound)
   pub in_seen_is : new.in_seen ≡ (old.in_seen || inbound)

@@ -19,8 +19,8 @@ abbrev pub state_with : Option ℕ → List Written → State
 state_with None ws = called
 state_with (Some base) ws = state_at base ws
 
--- Called: no base is fixed. Offered: no stream offset is acknowledged. Closed: both sides have sent a FIN and the inbound FIN is acknowledged. Warm: none of
--- these
+-- Called: no base is fixed. Offered: no stream offset is acknowledged. Closed: both sides have sent
+-- a FIN and the inbound FIN is acknowledged. Warm: none of these
 abbrev pub state_of : List Written → State
 state_of ws = state_with (base_of ws) ws
 

@@ -23,7 +23,7 @@ abXd = segment true 1000 5001 24 (97 ∷ 98 ∷ 88 ∷ 100 ∷ [])
 abbrev pub fin : Written
 fin = segment true 1004 5001 17 []
 
--- the opening and `abcd`; `abXd`, of which `abcd` is forwarded; the FIN
+-- the opening and `abcd`; `abXd`, forwarded as `abcd`; the FIN
 abbrev pub settled : List Written
 settled = opening ++ abcd ∷ abcd ∷ fin ∷ []
 
@@ -39,12 +39,13 @@ ClashIsNotEmitted = IsEmitted (opening ++ abcd ∷ []) abXd → ⊥
 abbrev pub wxyz : Written
 wxyz = segment true 998 5001 24 (119 ∷ 120 ∷ 121 ∷ 122 ∷ [])
 
--- the opening, ACKs of 2147484647 and 998, which are the offsets 2^31 - 1 and 2^32 - 2, and `wxyz` there
+-- the opening, ACKs of 2147484647 and 998, which are the offsets 2^31 - 1 and 2^32 - 2, and `wxyz`
+-- there
 abbrev pub turning : List Written
 turning = opening ++ segment false 5001 2147484647 16 [] ∷ segment false 5001 998 16 [] ∷ wxyz ∷ []
 
--- the same, an ACK of 1001, which is the offset 2^32 + 1; and `Abcd` at 1000, of which `zcd` is forwarded at 1001: the octet at 1000 is acknowledged, and `b`
--- is at the offset of `z`
+-- The same, an ACK of 1001, which is the offset 2^32 + 1, and `Abcd` at 1000. It is forwarded as
+-- `zcd` at 1001: the octet at 1000 is acknowledged, and `b` is at the offset of `z`.
 abbrev pub turned : List Written
 turned = turning ++ segment false 5001 1001 16 [] ∷ segment true 1001 5001 24 (122 ∷ 99 ∷ 100 ∷ []) ∷ []
 

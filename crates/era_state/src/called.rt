@@ -9,8 +9,9 @@ use crate::segment::Seg;
 use crate::syns::Syns;
 use wire_base::sequence_plus;
 
-/// Era that the inside opened and in which no segment fixed the base yet: the number of its first
-/// SYN, the number after the last segment that it sent, and the window scales of the SYNs.
+/// Era that the inside opened and in which no segment fixed the base yet. It holds the number of
+/// its first SYN, the number after the last segment that it sent, and the window scales of the
+/// SYNs.
 #[derive(Clone, Copy)]
 pub struct Called {
     pub iss: u32,

@@ -197,7 +197,8 @@ impl Era {
         }
     }
 
-    /// Returns the transition of an outbound segment.
+    /// Returns the transition of an outbound segment. `Reset` exactly on RST, `Reopen` exactly on a
+    /// SYN that reopens.
     pub fn outbound(mut self, seg: &Seg) -> Moved
         requires legal { tcp.are_legal seg.now.flags.0 ≡ true }
         requires acked { acked_in self < 2 ^ 63 }
@@ -277,7 +278,7 @@ impl Era {
     }
 
     /// Returns the offset after all that is acknowledged, was written inwards, or is the end; none
-    /// before a base is fixed.
+    /// before a base is fixed. (Next of docs/CONNECTIONS.md; an offset in octets.)
     pub fn next_place(&self) -> Option<u64>
         ensures called { is_none result ≡ is_called (state_in self.now) }
         ensures list { (ws : List Written) → StandsFor self.now ws → NextIs result ws }
@@ -381,7 +382,7 @@ impl Era {
         closed && (syn && !ack) && !again
     }
 
-    /// Returns whether the rule T_STATE holds of an inbound segment.
+    /// Returns whether the rule T_STATE applies to an inbound segment.
     pub fn is_early(&self, seg: &Seg) -> bool
         requires { tcp.are_legal seg.now.flags.0 ≡ true }
         ensures { (ws : List Written) → StandsFor self.now ws → result ≡ t_state ws (came seg.now) }
@@ -395,7 +396,7 @@ impl Era {
         !rst && (called && (!syn || ack && !answers) || offered && !syn)
     }
 
-    /// Returns whether the rule T_SYN holds of an inbound segment.
+    /// Returns whether the rule T_SYN applies to an inbound segment.
     pub fn is_stray_syn(&self, seg: &Seg) -> bool
         requires { tcp.are_legal seg.now.flags.0 ≡ true }
         ensures { (ws : List Written) → StandsFor self.now ws → result ≡ t_syn ws (came seg.now) }
@@ -444,7 +445,7 @@ impl Era {
         }
     }
 
-    /// Returns whether the rule T_RST holds of an inbound segment.
+    /// Returns whether the rule T_RST applies to an inbound segment.
     pub fn is_stray_reset(&self, seg: &Seg) -> bool
         requires { tcp.are_legal seg.now.flags.0 ≡ true }
         ensures { (ws : List Written) → StandsFor self.now ws → result ≡ t_rst ws (came seg.now) }

@@ -123,8 +123,8 @@ pub fn emitted_is_told()
     ensures { EmittedIsTold }
 {}
 
-/// Proves that the octets of an emitted segment are at Acked or up to 2^30 past it, and its FIN at an
-/// offset of the stream at most 2^30 past Acked.
+/// Proves that the octets of an emitted segment are at Acked or up to 2^30 past it, and its FIN at
+/// an offset of the stream at most 2^30 past Acked.
 pub fn emitted_is_near()
     ensures { EmittedIsNear }
 {}
@@ -151,7 +151,7 @@ pub fn clash_is_not_emitted()
 {}
 
 /// Proves that a connection past offset 2^32 is emitted, in which the last segment begins below
-/// Acked and has another octet than was sent first.
+/// Acked and has an octet that differs from the one sent first.
 pub fn turned_is_emitted()
     ensures { TurnedIsEmitted }
 {}

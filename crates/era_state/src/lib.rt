@@ -4,7 +4,7 @@
 //! Proved: an `Era` holds the quantities of the whole list of its segments, also past 2^32 octets,
 //! and each transition returns those of the list with one segment more. A kept octet lies between
 //! what is acknowledged and 2^30 past it, and a kept FIN lies at the end. `specs/Emission.antt`
-//! defines which segments may be written; they carry the first octet at each offset, below Top and
+//! defines which segments may be written. They carry the first octet at each offset, below Top and
 //! below the end (`laws`).
 //!
 //! Choices: of an inward segment only the sequence number, the octets, SYN, FIN and, on a SYN, the

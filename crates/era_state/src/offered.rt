@@ -9,10 +9,10 @@ use crate::segment::Seg;
 use crate::syns::Syns;
 use wire_base::sequence_plus;
 
-/// Era in which the SYN of the outside was written and no offset of its stream is acknowledged: the
-/// number of the stream's first octet, the numbers of the first outbound SYN and after the last
-/// outbound segment (if there are any), the window scales of the SYNs, and whether an outbound FIN
-/// was written.
+/// Era in which the SYN of the outside was written and no offset of its stream is acknowledged. It
+/// holds the number of the stream's first octet, and the numbers of the first outbound SYN and
+/// after the last outbound segment, if there are any. It also holds the window scales of the SYNs,
+/// and whether an outbound FIN was written.
 #[derive(Clone, Copy)]
 pub struct Offered {
     pub base: u32,

@@ -14,11 +14,11 @@ use crate::syns::Syns;
 use wire_base::sequence_plus;
 
 /// Era in which an offset of the stream is acknowledged. `base` is the number of the stream's first
-/// octet, `iss` that of the first outbound SYN (if there is one), `out` that after the last
+/// octet, `iss` that of the first outbound SYN (if there is one), and `out` that after the last
 /// outbound segment. `acked` is the greatest acknowledged offset, `edge` the greatest end of a
-/// window, `top` the offset after all octets written inwards, `end` the offset of the inbound FIN
-/// (if one was written), `out_fin` whether an outbound FIN was written, `octets` the number of
-/// offsets with an octet. Offsets count octets from the stream's first one.
+/// window, and `top` the offset after all octets written inwards. `end` is the offset of the
+/// inbound FIN (if one was written), `out_fin` whether an outbound FIN was written, and `octets`
+/// the number of offsets with an octet. Offsets count octets from the stream's first one.
 #[derive(Clone, Copy)]
 pub struct Warm {
     pub base: u32,

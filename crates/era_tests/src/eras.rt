@@ -53,7 +53,7 @@ fn goes_out(rt: &impl Abort, era: Era, seg: &Seg) -> Era
     }
 }
 
-// Interval of a segment of which nothing is forwarded.
+// Interval of a segment that is not forwarded at all.
 const NOTHING: Interval = Interval {
     lo: 0,
     hi: 0,
@@ -63,8 +63,8 @@ const NOTHING: Interval = Interval {
     end: false,
 };
 
-// Forwards an inbound segment, of whose offsets `old` had an octet before. Returns its interval,
-// the sequence number of its frame, and the era after it.
+// Forwards an inbound segment; `old` of its offsets had an octet before. Returns its interval, the
+// sequence number of its frame, and the era after it.
 fn comes_again(rt: &impl Abort, era: Era, seg: &Seg, old: u32) -> (Interval, u32, Era)
     requires legal { tcp.are_legal seg.now.flags.0 ≡ true }
     requires no_syn { tcp.has_syn seg.now.flags.0 ≡ false }

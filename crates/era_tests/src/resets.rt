@@ -207,8 +207,8 @@ fn a_reset_passes_with_its_probe_or_is_refused(rt: HostRuntime) -> Result<(), Fa
     Ok(())
 }
 
-// Another SYN from outside makes the host be probed, and that probe is written; octets after it in
-// the buffer stay.
+// Another SYN from outside causes a probe of the host, and that probe is written; octets after it
+// in the buffer stay.
 #[test]
 fn another_call_is_asked_about(rt: HostRuntime) {
     let head = Ipv4 {

@@ -180,8 +180,9 @@ const PLAIN: Found = Found {
     side: None,
 };
 
-/// The parts of a capture, an octet that is changed, and its number of octets; the name of the interface inside; the
-/// records that are read, the head, the fault at the end, and its offset.
+/// A case: the parts of a capture, an octet that is changed, and its number of octets; the name of
+/// the interface inside. Its result: the records that are read, the head, the fault at the end, and
+/// its offset.
 struct Row {
     parts: &'static [&'static [u8]],
     change: (usize, u8),
@@ -243,14 +244,14 @@ const ROWS: &[Row] = &[
     Row { inside: Some(b"in"), change: (100, 2), found: &[], fault: Some(InputFault::Block), offset: 92, ..BLOCKS },
     // A section of the other order may follow.
     Row { parts: &[&SECTION, &PACKET, &BIG], size: 240, inside: Some(b"in"), found: &[INWARD, NEXT], offset: 240, ..BLOCKS },
-    // A classic file is read as before.
+    // A classic file is read too.
     FILE,
     // A classic file without faults is refused where an interface is asked for.
     Row { inside: Some(b"in"), fault: Some(InputFault::Block), ..NO_FILE },
     Row { inside: Some(b"in"), change: (0, 0), fault: Some(InputFault::Magic), ..NO_FILE },
     Row { inside: Some(b"in"), change: (7, 3), fault: Some(InputFault::Version), ..NO_FILE },
     Row { inside: Some(b"in"), change: (23, 2), fault: Some(InputFault::Link), ..NO_FILE },
-    // A capture that is cut short is told at its head, record or block.
+    // A capture that is cut short is reported at its head, record or block.
     Row { size: 0, ..NO_FILE },
     Row { size: 3, ..NO_FILE },
     Row { size: 23, ..NO_FILE },
@@ -277,7 +278,7 @@ fn octets_of(alloc: Global, row: &Row) -> Result<Option<Vec<u8>>, AllocError> {
     Ok(Some(octets))
 }
 
-// Returns whether a capture is read so, in parts of `piece` octets.
+// Returns whether a capture is read as its case says, in parts of `piece` octets.
 fn is_read(alloc: Global, row: &Row, piece: usize) -> Result<bool, AllocError> {
     let mut buf = vec![in alloc; 0u8; MAX_CAPTURED as usize]?;
     let Some(octets) = octets_of(alloc, row)? else {
@@ -292,7 +293,7 @@ fn is_read(alloc: Global, row: &Row, piece: usize) -> Result<bool, AllocError> {
     Ok(outcome_of(row.inside, &mut source, &mut buf, row.found) == Some(wanted))
 }
 
-// Returns the index of the first capture that is read otherwise.
+// Returns the index of the first capture with another result.
 fn first_other(alloc: Global, rows: &[Row], piece: usize) -> Result<Option<usize>, AllocError> {
     for (index, row) in rows.iter().enumerate() {
         if !is_read(alloc, row, piece)? {
@@ -337,7 +338,7 @@ fn failing_at(alloc: Global, call: u32) -> Result<(Option<InputFault>, u64, u64)
     Ok(fault_of(&mut source, &mut buf))
 }
 
-// Returns the first call that fails otherwise.
+// Returns the first call with another fault.
 fn first_other_call(alloc: Global, rows: &[(u32, u64)]) -> Result<Option<u32>, AllocError> {
     for (call, offset) in rows {
         if failing_at(alloc, *call)? != (Some(InputFault::ReadFault), *offset, 1) {

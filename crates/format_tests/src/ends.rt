@@ -36,7 +36,7 @@ fn is_file_written(rt: &HostRuntime, path: Path<'_>, octets: &[u8]) -> io::Resul
     Ok(put_in_pieces(&mut sink, octets, 116).is_ok())
 }
 
-// Reads the file, and returns whether it has as many octets and no more.
+// Reads the file, and returns whether it has exactly this number of octets.
 fn is_file_read(rt: &HostRuntime, path: Path<'_>, octets: &mut [u8]) -> io::Result<bool> {
     let mut source = FileSource::over(Some(File::open(rt, path)?));
     Ok(read_full(&mut source, octets).is_ok() && source.fetch(&mut [0]) == Ok(0))
@@ -86,8 +86,8 @@ fn standard_output_takes_lines(rt: HostRuntime) {
     assert_eq!(rt; flushes_none(), (Err(Failed), 1));
 }
 
-// A reader and writer of which a signal interrupts every second call. The other calls read one octet, or write at most
-// `takes`.
+// A reader and writer; a signal interrupts every second call. The other calls read one octet, or
+// write at most `takes`.
 #[derive(Drop)]
 struct Interrupted {
     calls: u8,
@@ -135,7 +135,8 @@ fn interrupted_read() -> Result<usize, Failed> {
     source.fetch(&mut [0; 3])
 }
 
-// Writes three octets, at most `takes` a call. Returns whether that succeeds, and whether the error is `WriteZero`.
+// Writes three octets, at most `takes` per call. Returns whether that succeeds, and whether the
+// error is `WriteZero`.
 fn interrupted_write(takes: usize) -> (bool, bool) {
     let mut sink = BufferedSink::over(Some(Interrupted { calls: 0, takes }));
     let taken = put_in_pieces(&mut sink, b"abc", 3).is_ok();
@@ -150,8 +151,8 @@ fn an_interrupted_call_is_repeated(rt: HostRuntime) {
     assert_eq!(rt; interrupted_write(0), (false, true));
 }
 
-// Reads from a missing file. Returns whether there was no error before, whether the read fails, and whether the error
-// is `NotFound`.
+// Reads from a missing file. Returns whether there was no error before, whether the read fails, and
+// whether the error is `NotFound`.
 fn fails_to_read(source: &mut FileSource) -> (bool, bool, bool) {
     let before = source.last_error().is_none();
     let failed = source.fetch(&mut [0]) == Err(Failed);
@@ -186,8 +187,8 @@ fn failing_reads(alloc: Global) -> Result<Reads, AllocError> {
     Ok((first, read_full(&mut source, &mut buf), buf))
 }
 
-// Returns the results of puts of which the second fails, and of one past the sink's room, and whether the sink then
-// holds `abcde`.
+// Returns the results of puts whose second fails, and of one past the sink's room, and whether the
+// sink then holds `abcde`.
 fn failing_puts(sink: &mut MemSink) -> (Result<(), Failed>, Result<(), Failed>, bool) {
     let first = put_in_pieces(sink, b"abcdefgh", 3);
     let last = sink.put(b"def");
@@ -209,7 +210,8 @@ fn memory_fails_where_it_is_told_to(rt: HostRuntime) -> Result<(), Fail> {
     Ok(())
 }
 
-// Returns whether an outbox holds two frames, the first of the greatest length, and another one after it was cleared.
+// Returns whether an outbox holds two frames, the first of the greatest length, and another one
+// after it was cleared.
 fn holds_frames(outbox: &mut Outbox) -> bool
     requires { outbox.old ≡ [] }
 {

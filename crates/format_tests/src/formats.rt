@@ -1,13 +1,14 @@
-//! Frames by their ethertype, checksums by worked examples, sequence numbers, and prefixes.
+//! Frames by their EtherType, checksums by worked examples, sequence numbers, and prefixes.
 use wire_base::{
     Addr, FrameKind, Link, Prefix, PrefixFault, frame_kind, link_octets, packet_in, read_prefix,
     sequence_before, sequence_distance, sequence_plus, sum_for, sum_right,
 };
 
-/// The start of an Ethernet II frame with an IPv4 packet, from 02:00:00:00:00:01 to 02:00:00:00:00:02.
+/// The start of an Ethernet II frame with an IPv4 packet, from 02:00:00:00:00:01 to
+/// 02:00:00:00:00:02.
 const HEADER: [u8; 14] = [2, 0, 0, 0, 0, 2, 2, 0, 0, 0, 0, 1, 0x08, 0x00];
 
-/// Ethertypes, and the kinds of the frames that have them.
+/// EtherTypes, and the kinds of the frames that have them.
 const ETHERTYPES: &[([u8; 2], FrameKind)] = &[
     ([0x08, 0x00], FrameKind::Ip(14)),
     ([0x08, 0x06], FrameKind::Arp),
@@ -17,8 +18,8 @@ const ETHERTYPES: &[([u8; 2], FrameKind)] = &[
     ([0x86, 0xdd], FrameKind::Other),
 ];
 
-// Returns the kinds of a frame with this ethertype: as Ethernet, as Ethernet without the last octet of the ethertype,
-// and without a link header.
+// Returns the kinds of a frame with this EtherType: as Ethernet, as Ethernet without the last octet
+// of the EtherType, and without a link header.
 fn kinds(ethertype: [u8; 2]) -> (FrameKind, FrameKind, FrameKind) {
     let mut frame = HEADER;
     frame[12] = ethertype[0];
@@ -30,7 +31,7 @@ fn kinds(ethertype: [u8; 2]) -> (FrameKind, FrameKind, FrameKind) {
     )
 }
 
-// Returns the first ethertype whose kinds differ from its row.
+// Returns the first EtherType whose kinds differ from its row.
 fn first_other_kind(rows: &[([u8; 2], FrameKind)]) -> Option<[u8; 2]> {
     for (ethertype, kind) in rows {
         if kinds(*ethertype) != (*kind, FrameKind::Short, FrameKind::Ip(0)) {
@@ -54,8 +55,8 @@ fn frames_are_told_by_their_ethertype(rt: HostRuntime) {
 /// The header, and the first two octets of a packet.
 const FRAME: [u8; 16] = [2, 0, 0, 0, 0, 2, 2, 0, 0, 0, 0, 1, 0x08, 0x00, 0x45, 0x46];
 
-// Returns whether the first `size` octets have this number of link octets, and the others as their packet; without a
-// link header all of them are the packet.
+// Returns whether the first `size` octets have this number of link octets, and the others as their
+// packet; without a link header all of them are the packet.
 fn is_split(size: usize, link: usize) -> bool {
     let short = FRAME.get(..size).unwrap_or(&[]);
     let Some((header, packet)) = short.split_at_checked(link) else {
@@ -85,7 +86,7 @@ fn a_frame_is_its_link_octets_and_its_packet(rt: HostRuntime) {
     );
 }
 
-/// Octets, a sum before them, whether both together are right, and the checksum of both.
+/// Octets, a sum before them, whether both together sum to a right total, and the checksum of both.
 type Sum = (&'static [u8], u32, bool, u16);
 
 // The example of RFC 1071 section 3, alone and with its checksum; a sum of 0; an odd last
@@ -117,7 +118,8 @@ fn words_sum_as_the_standards_say(rt: HostRuntime) {
     assert_eq!(rt; first_other_sum(SUMS), None);
 }
 
-/// Sequence numbers, numbers of octets, and the sequence numbers after them: they wrap at 2^32 (RFC 9293 section 3.4).
+/// Sequence numbers, numbers of octets, and the sequence numbers after them: they wrap at 2^32 (RFC
+/// 9293 section 3.4).
 const SEQUENCES: &[(u32, u64, u32)] = &[
     (0, 0, 0),
     (0, 1, 1),

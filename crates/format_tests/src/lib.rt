@@ -1,5 +1,5 @@
-//! Tests of the objects that move octets, of numbers, sums, frames and prefixes, and of capture files
-//! of both kinds.
+//! Tests of the objects that move octets, of numbers, checksums, frames and prefixes, and of
+//! capture files of both kinds.
 #![tactic(auto)]
 
 #[cfg(test)]

@@ -1,4 +1,4 @@
-//! Heads and records in both byte orders, from sources that return few octets a call.
+//! Heads and records in both byte orders, from sources that return few octets per call.
 ghost use Rattle.std.specs.Prelude.{◌≤◌, length};
 ghost use Rattle.wire_base.specs.declared.limits.TheConstants.{MAX_CAPTURED};
 
@@ -8,7 +8,7 @@ use pcap_file::{Head, HeadFault, Order, Reader, RecordFault, read_head, write_he
 use std::alloc::{AllocError, Global};
 use wire_base::{Link, MAX_CAPTURED};
 
-// A source that returns at most `piece` octets a call.
+// A source that returns at most `piece` octets per call.
 #[derive(Drop)]
 struct Pieces<'a> {
     left: &'a [u8],
@@ -71,7 +71,8 @@ const BIG: [u8; 24] = [
     0xa1, 0xb2, 0x3c, 0x4d, 0, 2, 0, 4, 0, 0, 0, 0, 0, 0, 0, 0, 0, 4, 0, 0, 0, 0, 0, 1,
 ];
 
-// The head of each order, unit and link: magic, version 2.4, eight octets of 0, snap length 262,144, network.
+// The head of each order, unit and link: magic, version 2.4, eight octets of 0, snap length
+// 262,144, network.
 const HEADS: [(Order, bool, Link, [u8; 24]); 8] = [
     (Order::Little, false, Link::Raw, LITTLE),
     (
@@ -125,8 +126,8 @@ const HEADS: [(Order, bool, Link, [u8; 24]); 8] = [
     (Order::Big, true, Link::Ethernet, BIG),
 ];
 
-// Returns whether the octets of a head, of which a call returns at most `piece`, are read as it, and
-// no octet behind it is.
+// Returns whether the octets of a head are read as it, and no octet after it. A call returns at
+// most `piece` octets.
 fn is_read(head: &Head, octets: &[u8; 24], piece: usize) -> bool {
     let mut file = [7u8; 27];
     file[..24].copy_from_slice(octets);
@@ -139,7 +140,7 @@ fn is_written(sink: &mut Held, head: &Head, octets: &[u8; 24]) -> bool {
     write_head(sink, head).is_ok() && sink.octets.as_slice() == octets.as_slice()
 }
 
-// Returns the index of the first head that is read or written otherwise.
+// Returns the index of the first head with another result of reading or writing.
 fn first_other(sink: &mut Held, heads: &[(Order, bool, Link, [u8; 24])]) -> Option<usize> {
     for (index, (order, nano, link, octets)) in heads.iter().enumerate() {
         let head = Head {
@@ -280,7 +281,7 @@ fn a_record_is_written_in_the_order_of_its_head(rt: HostRuntime) {
 const RECORDS: &[u8] = &[
     0, 0, 0, 1, 0, 0, 0, 2, 0, 0, 0, 3, 0, 0, 0, 60, 7, 8, 9, // three octets of 60
     0, 0, 0, 4, 0, 0, 0, 5, 0, 0, 0, 0, 0, 0, 0, 0, // none
-    0, 0, 0, 0, 0, 0, 0, 0, 0, 0, 0, 3, 0, 0, 0, 3, 7, 8, // three, of which one lacks
+    0, 0, 0, 0, 0, 0, 0, 0, 0, 0, 0, 3, 0, 0, 0, 3, 7, 8, // three, one of them missing
 ];
 
 // Returns whether the reader is open and this record is the next.
@@ -328,7 +329,7 @@ fn are_read(buf: &mut [u8], piece: usize) -> bool
     first && second && cut && reader.offset() == 59 && !reader.is_open()
 }
 
-// Returns the first number of octets a call with which they are not.
+// Returns the first number of octets per call with which they are not.
 fn first_other_piece(alloc: Global) -> Result<Option<usize>, AllocError> {
     let mut buf = vec![in alloc; 0u8; MAX_CAPTURED as usize]?;
     for piece in [1, 7, 64] {

@@ -81,7 +81,7 @@ const SIMPLE: [u8; 24] = [
     3, 0, 0, 0, 24, 0, 0, 0, 5, 0, 0, 0, 1, 2, 3, 4, 5, 0, 0, 0, 24, 0, 0, 0,
 ];
 
-// A simple packet block of nine octets, of which six were captured.
+// A simple packet block of nine octets; six of them were captured.
 const CLIPPED: [u8; 24] = [
     3, 0, 0, 0, 24, 0, 0, 0, 9, 0, 0, 0, 1, 2, 3, 4, 5, 6, 0, 0, 24, 0, 0, 0,
 ];
@@ -230,8 +230,8 @@ fn reading_of(
     }
 }
 
-/// A file that is read to its end: the name of the interface inside, its blocks, its records, its link, and the offsets
-/// of the first interface and of the end.
+/// A file that is read to its end: the name of the interface inside, its blocks, its records, its
+/// link, and the offsets of the first interface and of the end.
 struct Whole {
     inside: Option<&'static [u8]>,
     blocks: &'static [&'static [u8]],
@@ -265,7 +265,8 @@ const WHOLES: &[Whole] = &[
     Whole { inside: Some(b"ex"), blocks: ON_EX, packets: OUTWARD, link: Link::Raw, offsets: (28, 156) },
     Whole { inside: Some(b"i"), blocks: ON_IN, packets: INWARD, link: Link::Raw, offsets: (28, 156) },
     Whole { inside: None, blocks: ON_EX, packets: SIDELESS, link: Link::Raw, offsets: (28, 156) },
-    // Times and lengths are those of the interface: 4,294,967,301 microseconds, and as many nanoseconds.
+    // Times and lengths are those of the interface: 4,294,967,301 microseconds, and as many
+    // nanoseconds.
     Whole { inside: None, blocks: &[&SECTION, &OTHER, &PLAIN, &LEAST, &STAMPED, &SIMPLE, &OTHER],
         packets: &[(4294, 967_301_000, 4, 76, None, &[7, 8, 9]), (4294, 967_301_000, 5, 120, None, &[1, 2, 3, 4, 5])],
         link: Link::Raw, offsets: (44, 160) },
@@ -280,7 +281,7 @@ const WHOLES: &[Whole] = &[
         link: Link::Ethernet, offsets: (28, 84) },
 ];
 
-// Returns whether a file is read so in parts of `piece` octets.
+// Returns whether a file is read as its case says in parts of `piece` octets.
 fn is_whole(alloc: Global, row: &Whole, piece: usize) -> Result<bool, AllocError> {
     let mut buf = vec![in alloc; 0u8; MAX_CAPTURED as usize]?;
     let octets = joined(alloc, row.blocks)?;
@@ -289,7 +290,7 @@ fn is_whole(alloc: Global, row: &Whole, piece: usize) -> Result<bool, AllocError
     Ok(reading_of(row.inside, &mut source, &mut buf, row.packets) == Ok(wanted))
 }
 
-// Returns the index of the first file that is read otherwise in parts of `piece` octets.
+// Returns the index of the first file with another result in parts of `piece` octets.
 fn first_other_whole(
     alloc: Global,
     rows: &[Whole],
@@ -334,8 +335,8 @@ const FAULTS: &[Faults] = &[
         // A packet block of the old type, and one of an interface that the section does not have.
         (60, 2, (0, Some(NgFault::Block), 60)),
         (68, 1, (0, Some(NgFault::Block), 60)),
-        // A captured length that does not fit the block, one above 262,144 octets, 2^32 seconds, and another size at the
-        // end.
+        // A captured length that does not fit the block, one above 262,144 octets, 2^32 seconds,
+        // and another size at the end.
         (80, 13, (0, Some(NgFault::Block), 60)),
         (82, 5, (0, Some(NgFault::Long), 60)),
         (74, 255, (0, Some(NgFault::Block), 60)),

@@ -1,4 +1,5 @@
--- The packet that an ICMP error message quotes (RFC 792, destination unreachable, time exceeded and parameter problem).
+-- The packet that an ICMP error message quotes (RFC 792, destination unreachable, time exceeded and
+-- parameter problem).
 use Rattle.std.specs.Prelude.{ℕ, ◌+◌, ◌==◌, ◌&&◌, nat_le, Bool, List, Option, Some, None, length, drop, if◌then◌else◌}
 use Rattle.wire_base.specs.Numbers.{u16_at}
 use Rattle.wire_base.specs.Ipv4 as ip
@@ -8,7 +9,8 @@ use Rattle.icmp_codec.specs.declared.quote.QuotedKey.{QuotedKey}
 abbrev pub quote_of : List ℕ → List ℕ
 quote_of message = drop 8 message
 
--- the octets after the header of a quoted packet; its total length also counts octets that are not quoted, and is ignored
+-- the octets after the header of a quoted packet; its total length also counts octets that are not
+-- quoted, and is ignored
 abbrev pub behind_header : List ℕ → List ℕ
 behind_header packet = drop (ip.header_length packet) packet
 

@@ -14,7 +14,8 @@ pub struct Icmp {
     pub code: u8,
 }
 
-/// Reasons why octets are not an ICMP message, in the order of the tests.
+/// Reasons why octets are not an ICMP message, in the order of the tests. `Short`: fewer than 8
+/// octets. `Sum`: the checksum is not right.
 #[derive(Clone, Copy, Debug, PartialEq, Eq, Error)]
 pub enum IcmpFault {
     #[error("fewer than 8 octets")]

@@ -2,8 +2,8 @@
 //! 792).
 //!
 //! Proved: `parse` returns the header or its first fault. `quoted` returns the addresses, protocol
-//! and ports of the quoted packet, and None exactly if no IPv4 header of at least five words with
-//! eight octets behind it is quoted.
+//! and ports of the quoted packet. It returns None exactly if no IPv4 header of at least five
+//! words, followed by eight octets, is quoted.
 #![tactic(auto)]
 
 pub mod header;

@@ -1,4 +1,5 @@
--- A record that no rule drops: its datagram, the facts of its header, and a new header before a payload.
+-- A record that no rule drops: its datagram, the facts of its header, and a new header before a
+-- payload.
 use Rattle.std.proofs.Common.{◌≡◌, ◌&&◌, Bool, true, false, cond, not, is_none, Option, Some, None, refl, ℕ, ◌<◌, ◌≤◌, ◌||◌, ◌==◌, List, [], ◌++◌, length, take, drop, sym, ap, ap₂, subst, ◌∙◌, filter, arith, ◌+◌, option_map, nat_lt, nat_le, take-append-drop, length-take-le}
 use Rattle.std.specs.List.{AllByRecursion}
 use Rattle.std.proofs.Math.Seq.{take-length}
@@ -24,7 +25,8 @@ use Rattle.ip_rules.proofs.Lists.{two_below, four_below, taken, dropped, behind_
 
 -- The datagram of a record that no rule drops.
 
--- a datagram was returned: no rule drops the record, it carries a packet that is no fragment, and it has a side
+-- a datagram was returned: no rule drops the record, it carries a packet that is no fragment, and
+-- it has a side
 pub record Made {X : Type 0} (dropped : Option X) (carries piece : Bool) (told : Option Side) (make : Side → Datagram) (d : Datagram) : Type 0 where
   pub undropped : dropped ≡ None
   pub carried : carries ≡ true
@@ -86,7 +88,7 @@ carried_short p each s =
     let least = s.least in
     omega (arith, most, total, least)
 
--- no fix rule holds of the header
+-- no fix rule applies to the header
 pub record IsUnmended (settings : PlainSettings) (given : Option Side) (p : List ℕ) : Type 0 where
   pub trailer : ip.has_trailer p ≡ false
   pub options : ip.has_options p ≡ false

@@ -1,4 +1,5 @@
--- Which rule holds of a record: on its link, on its packet, and that those of the packet are those of the record.
+-- Which rule applies to a record: on its link, on its packet, and that those of the packet are
+-- those of the record.
 use Rattle.std.proofs.Common.{◌≡◌, ℕ, ◌-◌, Bool, true, false, not, ◌&&◌, ◌||◌, nat_le, List, length, take, drop, Option, Some, None, refl, sym, ap, ◌∙◌, ◌≤◌, ◌<◌, arith, inl, inr, if◌then◌else◌, ◌==◌, ◌++◌, Result, Ok, Err, is_none, filter, ap₂, find, eqb-true, le-leb}
 use Rattle.std.proofs.lemmas.Bool.Decides.{leb_tells}
 use Rattle.std.proofs.lemmas.List.{take_rest}

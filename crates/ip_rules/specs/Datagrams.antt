@@ -1,4 +1,5 @@
--- A whole datagram, and the packets that are written for it (RFC 791 section 3.1; the changes of its header are this project's profile).
+-- A whole datagram, and the packets that are written for it (RFC 791 section 3.1; the changes of
+-- its header are this project's profile).
 use Rattle.std.specs.Prelude.{◌≡◌, ℕ, ◌+◌, ◌^◌, ◌<◌, ◌≤◌, ◌&&◌, ◌==◌, ◌||◌, not, nat_le, Bool, true, false, List, [], ◌++◌, length, map, slice_index, Option, Some, None, is_none, option_map, if◌then◌else◌}
 use Rattle.wire_base.specs.declared.address.Link.{Link}
 use Rattle.wire_base.specs.declared.address.Side.{Side}
@@ -16,8 +17,9 @@ use Rattle.ip_rules.specs.declared.judged.IpPacket.{IpPacket}
 use Rattle.ip_rules.specs.Rows.{carries_ip, side_in, whole_fix_rows, ip_dropped_by, ip_fixes}
 use Rattle.wire_base.specs.declared.limits.TheConstants.{MAX_PAYLOAD}
 
--- a whole datagram, of one packet or reassembled from fragments: its side, the fields of its header, the header's octets as they were read (used only if no
--- rule rewrites the datagram), its payload, and the fix rules on its header that hold
+-- A whole datagram, of one packet or reassembled from fragments. It has its side, the fields of its
+-- header, its payload, and the fix rules on its header that hold. The header's octets as they were
+-- read are used only if no rule rewrites the datagram.
 pub record Datagram : Type 0 where
   pub side : Side
   pub head : Ipv4
@@ -38,7 +40,8 @@ datagram_of p fixes side = record { side = side; head = fields_of p; header = ip
 abbrev pub carries_datagram : Link → (frame : List ℕ) → Bool
 carries_datagram link frame = carries_ip link frame && not (ip.is_fragment (packet_in link frame))
 
--- the whole datagram that a record carries, if no rule on the link, the header and the protocol drops it
+-- the whole datagram that a record carries, if no rule on the link, the header and the protocol
+-- drops it
 abbrev pub datagram_in : PlainSettings → Link → records.Packet → Option Datagram
 datagram_in settings link r =
     let p = packet_in link r.octets in
@@ -55,8 +58,8 @@ pub record Packet : Type 0 where
 abbrev pub raised : (hops : ℕ) → Ipv4 → Ipv4
 raised hops head = record head { ttl = if nat_le head.ttl hops then hops + 1 else head.ttl }
 
--- the fields of the header that are written in this direction: those read, with a TTL of `hops` + 1 for an inbound datagram whose TTL does not pass `hops`
--- routers
+-- the fields of the header that are written in this direction: those read, with a TTL of `hops` + 1
+-- for an inbound datagram whose TTL does not pass `hops` routers
 abbrev pub head_at : Side → (hops : ℕ) → Ipv4 → Ipv4
 head_at side hops head = record head { ttl = if goes_in side && nat_le head.ttl hops then hops + 1 else head.ttl }
 
@@ -84,7 +87,8 @@ abbrev pub datagram_with : (header : List ℕ) → IpPacket → Datagram
 datagram_with header packet =
     record { side = packet.side; head = packet.head; header = header; octets = packet.payload.now; fixes = packet.fixes.items }
 
--- The datagram is that of the packet, whose frame has these link octets. Its header's octets are those of the frame, if no rule rewrites the packet.
+-- The datagram is that of the packet, whose frame has these link octets. Its header's octets are
+-- those of the frame, if no rule rewrites the packet.
 pub record IsDatagram (packet : IpPacket) (link : List ℕ) (d : Datagram) : Type 0 where
   pub side : d.side ≡ packet.side
   pub head : d.head ≡ packet.head
@@ -105,8 +109,9 @@ pub record HasSizes (head : Ipv4) : Type 0 where
 abbrev pub AreOctets : List ℕ → Type 0
 AreOctets octets = (at : ℕ) → slice_index octets at < 2 ^ 8
 
--- A packet of a datagram: no fragment, with a header of 20 octets, the reserved flag clear, a right sum over the header, the datagram's protocol and addresses,
--- and its payload after the header; inwards its TTL passes `hops` routers.
+-- A packet of a datagram: no fragment, with a header of 20 octets, the reserved flag clear, and a
+-- right header checksum. It has the datagram's protocol and addresses, and its payload after the
+-- header. Inwards its TTL passes `hops` routers.
 pub record IsPacketOf (settings : PlainSettings) (d : Datagram) (p : Packet) : Type 0 where
   pub long : length p.header ≡ 20
   pub header : IsPlainHeader (p.header ++ p.octets)
@@ -116,7 +121,8 @@ pub record IsPacketOf (settings : PlainSettings) (d : Datagram) (p : Packet) : T
   pub destination : ip.destination (p.header ++ p.octets) ≡ d.head.dst.0
   pub passes : goes_in d.side ≡ true → settings.hops < ip.time_to_live (p.header ++ p.octets)
 
--- The facts of a datagram that no rule on its header drops: sizes, protocol, and, if no rule rewrites it, that it is a packet of itself as it was read.
+-- The facts of a datagram that no rule on its header drops: sizes, protocol, and, if no rule
+-- rewrites it, that it is a packet of itself as it was read.
 pub record IsKnown (settings : PlainSettings) (d : Datagram) : Type 0 where
   pub sizes : HasSizes d.head
   pub known : ((d.head.protocol == 1) || (d.head.protocol == 6) || (d.head.protocol == 17)) ≡ true
@@ -124,7 +130,7 @@ pub record IsKnown (settings : PlainSettings) (d : Datagram) : Type 0 where
   pub each : AreOctets d.octets
   pub whole : d.fixes ≡ [] → IsPacketOf settings d (as_read d)
 
--- these facts hold of the datagram that a record of octets carries
+-- these facts hold for the datagram that a record of octets carries
 abbrev pub DatagramsAreKnown : Type 0
 DatagramsAreKnown =
     (settings : PlainSettings) (link : Link) (r : records.Packet) (d : Datagram)

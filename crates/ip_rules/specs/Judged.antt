@@ -21,7 +21,8 @@ use Rattle.ip_rules.specs.declared.rows.Linked.{Linked}
 use Rattle.ip_rules.specs.declared.rows.Linked.TheVariants as linked
 use Rattle.ip_rules.specs.Rows.{carries_ip, carries_arp, is_bad_destination, is_bad_source, side_in, l_snap, l_short, l_type, i_opt_bad, i_route, p_proto, i_trail, i_opt, i_res, holds_in, packet_drop_rows, whole_fix_rows, piece_fix_rows, ip_dropped_by, ip_fixes, tells_side}
 
--- the packet of a frame: its side, the fields of its header, the whole frame, the payload up to the total length, and these fix rules
+-- the packet of a frame: its side, the fields of its header, the whole frame, the payload up to the
+-- total length, and these fix rules
 pub record IsRead (settings : PlainSettings) (given : Option Side) (octets p : List ℕ) (named : List Rule) (packet : IpPacket) : Type 0 where
   pub side : side_in settings given p ≡ Some packet.side
   pub head : packet.head ≡ fields_of p
@@ -41,8 +42,9 @@ judged_with packet (kinds.Drop side rule) = Drop side rule
 judged_with packet kinds.Piece = Piece packet
 judged_with packet kinds.Whole = Whole packet
 
--- The result is that of the rules: ARP that no rule drops; the first drop rule that holds, with the side if that rule reports it; or the packet that the record
--- carries, fragment or not, with the fix rules that hold.
+-- The result is that of the rules. It is ARP that no rule drops, or the first drop rule that holds,
+-- with the side if that rule reports it. Otherwise it is the packet that the record carries,
+-- fragment or not, with the fix rules that hold.
 abbrev pub IsJudged : PlainSettings → Link → Packet → IpJudged → Type 0
 IsJudged settings link r Arp = (ip_dropped_by settings link r ≡ None) × (carries_arp link r.octets ≡ true)
 IsJudged settings link r (Drop side rule) =
@@ -73,7 +75,8 @@ rule_of faults.HeaderLength = rules.IHlen
 rule_of faults.Length = rules.ILen
 rule_of faults.Sum = rules.ISum
 
--- the side of a packet from `source` to `destination`, or the first rule on addresses that holds; `given` is the side of its record
+-- the side of a packet from `source` to `destination`, or the first rule on addresses that holds;
+-- `given` is the side of its record
 abbrev pub side_or_row : PlainSettings → (given : Option Side) → (source destination : ℕ) → Result Side Rule
 side_or_row settings given source destination =
     if is_bad_source source destination then Err rules.ISrc
@@ -88,7 +91,7 @@ content_row p = if i_opt_bad p then Some rules.IOptBad else if i_route p then So
 abbrev pub where_holds : Bool → Rule → List Rule
 where_holds holds rule = if holds then rule ∷ [] else []
 
--- the fix rules that hold of a packet, without I_TTL
+-- the fix rules that apply to a packet, without I_TTL
 abbrev pub header_fixes : (packet : List ℕ) → List Rule
 header_fixes p = where_holds (i_trail p) rules.ITrail ++ where_holds (i_opt p) rules.IOpt ++ where_holds (i_res p) rules.IRes
 
@@ -96,7 +99,7 @@ header_fixes p = where_holds (i_trail p) rules.ITrail ++ where_holds (i_opt p) r
 unfoldable pub packet_row : PlainSettings → (given : Option Side) → (packet : List ℕ) → Option Rule
 packet_row settings given p = find (holds_in settings given p) packet_drop_rows
 
--- the rules of `rows` that hold of a packet
+-- the rules of `rows` that apply to a packet
 unfoldable pub packet_fixes : PlainSettings → (given : Option Side) → (packet : List ℕ) → List Rule → List Rule
 packet_fixes settings given p rows = filter (holds_in settings given p) rows
 

@@ -1,5 +1,6 @@
--- The rules on the link, the IPv4 header and the protocol, one definition each, in the order of their numbers (this project's profile). A rule depends on one
--- record, or the packet in it, the settings and the link, and not on other records.
+-- The rules on the link, the IPv4 header and the protocol, one definition each, in the order of
+-- their numbers (this project's profile). A rule depends on one record, or the packet in it, the
+-- settings and the link, and not on other records.
 use Rattle.std.specs.Prelude.{ℕ, ◌==◌, ◌/◌, ◌&&◌, ◌||◌, nat_lt, nat_le, not, Bool, true, false, List, [], ◌∷◌, ◌++◌, length, Option, Some, None, is_none, find, filter}
 use Rattle.wire_base.specs.declared.address.Link.{Link}
 use Rattle.wire_base.specs.declared.address.Link.TheVariants.{Ethernet, Raw}
@@ -65,7 +66,7 @@ i_hlen p = ip.has_bad_header_length p
 abbrev pub i_len : (packet : List ℕ) → Bool
 i_len p = ip.has_bad_total_length p
 
--- I_SUM: the sum over the header is wrong
+-- I_SUM: the header's checksum is wrong
 abbrev pub i_sum : (packet : List ℕ) → Bool
 i_sum p = ip.has_wrong_sum p
 
@@ -73,14 +74,17 @@ i_sum p = ip.has_wrong_sum p
 abbrev pub first_octet : (address : ℕ) → ℕ
 first_octet address = address / 16777216
 
--- A source that no packet on a link between networks has. No host sends from loopback, multicast or broadcast, and from "this network" only one that asks for
--- its address (RFC 1122 section 3.2.1.3). This project's profile adds "this network", all addresses above multicast, and a source equal to the destination.
+-- A source that no packet on a link between networks has. No host sends from loopback, multicast or
+-- broadcast, and from "this network" only one that asks for its address (RFC 1122 section 3.2.1.3).
+-- This project's profile adds "this network", all addresses above multicast, and a source equal to
+-- the destination.
 abbrev pub is_bad_source : (source destination : ℕ) → Bool
 is_bad_source source destination =
     (first_octet source == 0) || (first_octet source == 127) || nat_le 224 (first_octet source) || (source == destination)
 
--- A destination to which no packet is forwarded. No host sends to "this network" or loopback (RFC 1122 section 3.2.1.3). This project's profile adds all
--- addresses above multicast, and with them broadcasts on the own link.
+-- A destination to which no packet is forwarded. No host sends to "this network" or loopback (RFC
+-- 1122 section 3.2.1.3). This project's profile adds all addresses above multicast, and with them
+-- broadcasts on the own link.
 abbrev pub is_bad_destination : (destination : ℕ) → Bool
 is_bad_destination destination =
     (first_octet destination == 0) || (first_octet destination == 127) || nat_le 240 (first_octet destination)
@@ -97,7 +101,8 @@ i_dst p = is_bad_destination (ip.destination p)
 abbrev pub i_side : PlainSettings → (given : Option Side) → (packet : List ℕ) → Bool
 i_side settings given p = is_none (side_in settings given p)
 
--- I_OPT_BAD: before the end option or the end of the area an option has no length octet, a length below 2, or reaches past the area
+-- I_OPT_BAD: before the end option or the end of the area an option has no length octet, a length
+-- below 2, or reaches past the area
 abbrev pub i_opt_bad : (packet : List ℕ) → Bool
 i_opt_bad p = not (are_well_formed (ip.options p))
 
@@ -125,7 +130,8 @@ i_res p = ip.has_reserved p
 abbrev pub i_ttl : PlainSettings → (given : Option Side) → (packet : List ℕ) → Bool
 i_ttl settings given p = is_inward (side_in settings given p) && nat_le (ip.time_to_live p) settings.hops
 
--- whether a rule holds of a packet, by the condition of a rule on the packet; other rules do not hold; `given` is the side of its record
+-- whether a rule applies to a packet, by the condition of a rule on the packet; other rules do not
+-- apply; `given` is the side of its record
 abbrev pub holds_in : PlainSettings → (given : Option Side) → (packet : List ℕ) → Rule → Bool
 holds_in settings given p rules.IShort = i_short p
 holds_in settings given p rules.IVersion = i_version p
@@ -144,7 +150,8 @@ holds_in settings given p rules.IRes = i_res p
 holds_in settings given p rules.ITtl = i_ttl settings given p
 holds_in settings given p _ = false
 
--- whether a rule on the link, the header or the protocol holds of a record; those on the packet hold only if the frame carries IPv4
+-- whether a rule on the link, the header or the protocol applies to a record; those on the packet
+-- apply only if the frame carries IPv4
 abbrev pub holds_ip : PlainSettings → Link → Packet → Rule → Bool
 holds_ip settings link r rules.LSnap = l_snap r
 holds_ip settings link r rules.LShort = l_short link r.octets
@@ -159,7 +166,8 @@ packet_drop_rows = header_rows ++ protocol_rows
 abbrev pub ip_drop_rows : List Rule
 ip_drop_rows = link_rows ++ packet_drop_rows
 
--- the fix rules of a packet that is no fragment, and those of a fragment: I_TTL is judged for the whole datagram
+-- the fix rules of a packet that is no fragment, and those of a fragment: I_TTL is judged for the
+-- whole datagram
 abbrev pub whole_fix_rows : List Rule
 whole_fix_rows = header_fix_rows ++ rules.ITtl ∷ []
 
@@ -170,7 +178,7 @@ piece_fix_rows = header_fix_rows
 unfoldable pub ip_dropped_by : PlainSettings → Link → Packet → Option Rule
 ip_dropped_by settings link r = find (holds_ip settings link r) ip_drop_rows
 
--- the rules of `rows` that hold of the record, in their order
+-- the rules of `rows` that apply to the record, in their order
 unfoldable pub ip_fixes : PlainSettings → Link → Packet → List Rule → List Rule
 ip_fixes settings link r rows = filter (holds_ip settings link r) rows
 

@@ -4,7 +4,7 @@ use ipv4_codec::Ipv4;
 use rule_book::Rule;
 use wire_base::Side;
 
-/// The fix rules that hold of a packet, in the order of their numbers.
+/// The fix rules that apply to a packet, in the order of their numbers.
 pub type Fixes = ArrayVec<Rule, 16>;
 
 /// A packet that no rule on the link, the header or the protocol drops.
@@ -38,7 +38,7 @@ impl<'a> IpPacket<'a> {
     }
 }
 
-/// The result of judging a record whose packet is filled in beside it.
+/// The result of judging a record whose packet the caller keeps.
 #[derive(Clone, Copy, Debug)]
 pub enum IpKind {
     /// ARP that no rule on the link drops.
@@ -56,7 +56,8 @@ pub enum IpKind {
 pub enum IpJudged<'a> {
     /// ARP that no rule on the link drops.
     Arp,
-    /// The rule that drops the record, and, from I_OPT_BAD on, the side.
+    /// The rule that drops the record, and, from I_OPT_BAD on, the side. The side is None under the
+    /// rules 1 to 11.
     Drop(Option<Side>, Rule),
     /// A fragment. I_TTL is judged for its whole datagram only.
     Piece(IpPacket<'a>),

@@ -14,7 +14,8 @@ use pcap_file::Record;
 use rule_book::Rule;
 use wire_base::{Addr, FrameKind, Link, MAX_FRAME, Side, frame_kind, protocol};
 
-/// Judges a record by the first rule on the link, the header or the protocol that holds.
+/// Judges a record by the first rule on the link, the header or the protocol that holds. Rules 1 to
+/// 14, and 41 to 44 if none of these drops the record.
 pub fn judge_ip<'a>(settings: &Settings, link: Link, input: &Record<'a>) -> IpJudged<'a>
     requires prefixes { All (λ prefix. prefix.len ≤ 32) settings.now.prefixes.items }
     ensures { spec.IsJudged (plain_settings settings.now) link (shown input.now) result }
@@ -227,7 +228,7 @@ fn payload_of<'a>(head: &Ipv4, packet: &'a [u8]) -> &'a [u8]
     &whole[head.header..]
 }
 
-// Makes these the fix rules that hold of a header, without I_TTL.
+// Makes these the fix rules that apply to a header, without I_TTL.
 fn fill_fixes(head: &Ipv4, packet: &[u8], fixes: &mut Fixes)
     requires { head.now ≡ fields_of packet.now }
     ensures { fixes.new.items ≡ spec.header_fixes packet.now }

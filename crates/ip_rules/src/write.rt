@@ -57,7 +57,7 @@ pub fn put_anew(link: &[u8], head: &Ipv4, octets: &[u8], out: &mut Outbox)
     out.append(octets);
 }
 
-// Begins a frame after these link octets, of which raw IP has none, in the empty outbox.
+// Begins a frame after these link octets, in the empty outbox. Raw IP has no link octets.
 fn begin_after(link: &[u8], out: &mut Outbox)
     requires empty { out.old ≡ [] }
     requires link { length link.now ≤ MAX_LINK }

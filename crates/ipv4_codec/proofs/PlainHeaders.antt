@@ -20,7 +20,7 @@ with_u16-octets_of head payload sum bare header e f g =
 pub fields_of-checksum : (head : Ipv4) (payload sum : ℕ) (rest : List ℕ) → fields_of (octets_of head (20 + payload) 0) ≡ plain_fields head payload 0 → fields_of (octets_of head (20 + payload) sum ++ rest) ≡ plain_fields head payload (ip.header_checksum (octets_of head (20 + payload) sum ++ rest))
 fields_of-checksum head payload sum rest e = ap (λ (fields : Ipv4). record fields { sum = ip.header_checksum (octets_of head (20 + payload) sum ++ rest) }) e
 
--- the header's sum is right
+-- the header's checksum is right
 pub header-sum : (head : Ipv4) (size : ℕ) → sum_is_right (plain_header head size) 0 ≡ true
 header-sum head size =
     let bare = octets_of head (20 + size) 0 in
@@ -28,7 +28,8 @@ header-sum head size =
     let total : 0 + word_sum (plain_header head size) ≡ word_sum bare + checksum_for (word_sum bare) = omega (arith, sum) in
     ap is_right total ∙ is_right-checked (word_sum bare)
 
--- the octet of the flags has neither the reserved flag nor more fragments, and its part of the offset is 0
+-- the octet of the flags has neither the reserved flag nor more fragments, and its part of the
+-- offset is 0
 no-reserved : (df : Bool) → (((if df then 64 else 0) / 128 % 2) == 1) ≡ false
 no-reserved true = refl
 no-reserved false = refl

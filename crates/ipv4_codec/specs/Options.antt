@@ -4,7 +4,8 @@ use Rattle.wire_base.specs.Options.{are_well_formed, has_route}
 use Rattle.ipv4_codec.specs.declared.option_area.OptionFacts.{OptionFacts}
 use Rattle.ipv4_codec.specs.declared.option_area.BadOption.{BadOption}
 
--- BadOption exactly if the options are not well formed; else whether the area has octets, and whether it has a source route before the end option
+-- BadOption exactly if the options are not well formed; else whether the area has octets, and
+-- whether it has a source route before the end option
 abbrev pub facts_of : List ℕ → Result OptionFacts BadOption
 facts_of area =
     if are_well_formed area then Ok (record { some = nat_lt 0 (length area); route = has_route area })

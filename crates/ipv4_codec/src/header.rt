@@ -31,7 +31,8 @@ pub struct Ipv4 {
     pub dst: Addr,
 }
 
-/// Reasons why octets are not an IPv4 packet, in the order of the tests.
+/// Reasons why octets are not an IPv4 packet, in the order of the tests. The causes are those of
+/// the rules I_SHORT, I_VERSION, I_HLEN, I_LEN and I_SUM.
 #[derive(Clone, Copy, Debug, PartialEq, Eq, Error)]
 pub enum IpFault {
     #[error("fewer than 20 octets")]

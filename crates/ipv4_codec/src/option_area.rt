@@ -19,7 +19,7 @@ const STRICT_ROUTE: u8 = 137;
 pub struct OptionFacts {
     /// The area is not empty.
     pub some: bool,
-    /// A source route, loose or strict, is before the end option.
+    /// A source route, loose or strict (type 131 or 137), is before the end option.
     pub route: bool,
 }
 

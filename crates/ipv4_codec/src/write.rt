@@ -14,7 +14,7 @@ const HEADER: usize = 20;
 
 /// Writes the header of a packet that is no fragment and has `payload` octets after its header.
 /// Type of service, identification, don't fragment, time to live, protocol and addresses are those
-/// of `head`; no other flag is set, the offset is 0, there are no options, and the checksum is
+/// of `head`. No other flag is set, the offset is 0, there are no options, and the checksum is
 /// right (RFC 791 section 3.1). Returns the header's length in octets.
 pub fn write_plain(head: &Ipv4, payload: u16, buf: &mut [u8]) -> usize
     requires payload { payload ≤ MAX_PAYLOAD }

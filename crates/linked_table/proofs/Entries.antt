@@ -1,4 +1,5 @@
--- The entries of a table: those in a list of slots, all of them split at one slot, and what a read of a slot means for them.
+-- The entries of a table: those in a list of slots, all of them split at one slot, and what a read
+-- of a slot means for them.
 use Rattle.std.proofs.Common.{◌≡◌, ◌≢◌, ◌==◌, ℕ, suc, true, not, inl, inr, Option, Some, None, List, [], ◌∷◌, ◌++◌, length, refl, sym, ap, subst, ◌∙◌, arith, false, map, ◌+◌, ◌<◌, ◌≤◌, get_or, eq-eqb, ne_eqb}
 use Rattle.std.specs.List.{AllByRecursion, Any, AllPairs, All}
 use Rattle.std.proofs.lemmas.List.Elements.{filter-append, recursion_from_All, All-from_recursion}
@@ -45,7 +46,7 @@ module _ {K V : Type 0} where
   any_tail P x None l any = any
   any_tail P x (Some p) l any = Any-tail P _ l any
 
-  -- an entry of which `P` holds
+  -- an entry for which `P` holds
   pub record IsEntry (pairs : List (Option (K × V))) (nodes : List ℕ) (P : Entry K V → Type 0) : Type 0 where
     pub node : ℕ
     pub key : K
@@ -217,7 +218,7 @@ ring_apart links hub p [] none ring = tt
 ring_apart links hub p (x ∷ xs) none ring =
     (not_after links hub p [] x xs none ring, ring_apart links hub x xs (λ h. none (inr h)) ring.1)
 
--- `len` steps from the hub lead through its whole ring
+-- `len` steps from the sentinel lead through its whole ring
 pub walk_ring : {links : List Links} {slots hub : ℕ} {nodes : List ℕ} {len : ℕ} → HasRing links slots hub nodes → length nodes ≡ len → walk links len hub ≡ nodes
 walk_ring {links} {slots} {hub} {nodes} has count = subst (λ n. walk links n hub ≡ nodes) count (walk-ring links hub nodes hub has.ring)
 
@@ -225,7 +226,7 @@ module _ {K V : Type 0} (hash : K → ℕ) (max : ℕ) (nodes : Columns K V) (hu
   pub used_apart : Apart sound.used
   used_apart = ring_apart nodes.recency max max sound.used (hub_apart sound.used_ring) sound.used_ring.ring
 
-  -- the hub of a bucket, of which the code counts the number
+  -- the sentinel of a bucket, whose number the code computes
   pub hub_read : (hash_is slots bucket : ℕ) → slots ≡ length nodes.pairs → bucket ≡ bucket_number hash_is (length hubs) → slots + bucket ≡ max + 2 + bucket_number hash_is (length sound.buckets)
   hub_read hash_is slots bucket slots_is bucket_is =
       let same : bucket ≡ bucket_number hash_is (length sound.buckets) = bucket_is ∙ ap (bucket_number hash_is) sound.hub_count in
@@ -253,7 +254,7 @@ module _ {K V : Type 0} (hash : K → ℕ) (max : ℕ) (nodes : Columns K V) (hu
     pub keys_apart : AllPairs (λ e f. e.key ≢ f.key) table.entries
     keys_apart = rw entries_are (AllPairs-from_recursion (λ e f. e.key ≢ f.key) _ (pairwise_entries nodes.pairs (λ e f. e.key ≢ f.key) sound.used used_apart (λ i j key other value rest ne pair there same. ne (sound.keys_apart i j key value rest pair (subst (λ k. pair_at nodes.pairs j ≡ Some (k, rest)) (sym same) there)))))
 
--- What a read of a slot, or of the node of the hub, means for the entries.
+-- What a read of a slot, or of the node of the sentinel, means for the entries.
 
 -- the fact of the pair that a slot holds
 abbrev on_pair : {K V : Type 0} → (Entry K V → Type 0) → ℕ → Option (K × V) → Type 0
@@ -279,7 +280,7 @@ module _ {K V : Type 0} (hash : K → ℕ) (max : ℕ) (nodes : Columns K V) (hu
       let (pair, pair_is) = some_of (pair_at nodes.pairs node) (sound.used_filled node within) in
       rw (entries_are hash max nodes hubs len sound table is) (any_entry nodes.pairs (λ e. e.slot ≡ slot_of node) sound.used node pair.0 pair.1 within pair_is refl)
 
-  -- what holds of the pair in a slot holds of the entry of the slot
+  -- what holds for the pair in a slot holds for the entry of the slot
   pub pair_wherever : (P : Entry K V → Type 0) (slot : Slot) (key : K) (value : V) → pair_at nodes.pairs slot.0 ≡ Some (key, value) → P (entry slot.0 key value) → Wherever table.entries slot P
   pair_wherever P slot key value pair holds =
       let each = all_entries nodes.pairs (λ e. e.slot ≡ slot → P e) sound.used (λ i other rest within there named.
@@ -307,7 +308,7 @@ module _ {K V : Type 0} (hash : K → ℕ) (max : ℕ) (nodes : Columns K V) (hu
         let f : ◌≡◌ {A = Option (K × V)} (Some ((used_of slot listed).key, (used_of slot listed).value)) None = sym (used_of slot listed).pair ∙ (sym (read_is listed x read) ∙ none) in
         cc
 
-    -- the pair behind the reference that the code has to the slot
+    -- the pair after the reference that the code has to the slot
     pub read_pair : IsIn table.entries slot → (x : Option (K × V)) → x ≡ get_or nodes.pairs slot.0 x → (pair : K × V) → Some pair ≡ x → pair_at nodes.pairs slot.0 ≡ Some pair
     read_pair listed x read pair pair_is = sym (read_is listed x read) ∙ sym pair_is
 
@@ -315,7 +316,7 @@ module _ {K V : Type 0} (hash : K → ℕ) (max : ℕ) (nodes : Columns K V) (hu
     read_wherever P listed x read key value x_is holds =
         pair_wherever P slot key value (sym (read_is listed x read) ∙ x_is) holds
 
-  -- the node after the hub of the entries,
+  -- the node after the sentinel of the entries,
   pub record ReadsFirst (node : ℕ) : Type 0 where
     pub none : node ≡ max → None ≡ first_slot table.entries
     pub some : node ≢ max → Some (slot_of node) ≡ first_slot table.entries

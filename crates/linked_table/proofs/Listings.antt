@@ -31,7 +31,7 @@ few_nodes : {links : List Links} {slots hub : ℕ} {nodes : List ℕ} → HasRin
 few_nodes {links} {slots} {hub} {nodes} has =
     length-le_from_distinct_below nodes slots (distinct links hub hub nodes (hub_apart has) has.ring) (λ node listed. has.inside node (In-from_any node nodes listed))
 
--- the slots up to the hub are those of its ring
+-- the slots up to the sentinel are those of its ring
 slots_to-ring : (links : List Links) (hub most p : ℕ) (nodes : List ℕ) → (In hub nodes → ⊥) → IsRing links p nodes hub → length nodes ≤ most → slots_to links hub most p ≡ map slot_of nodes
 slots_to-ring links hub zero p [] not_hub ring few = refl
 slots_to-ring links hub zero p (x ∷ xs) not_hub ring few = absurd (omega (arith, few))
@@ -51,7 +51,7 @@ others_split s [] after not_before not_after = rw (eq-eqb s s refl) (others_none
 others_split s (x ∷ xs) after not_before not_after =
     rw (ne_eqb x s (λ same. not_before (inl same))) (ap (λ l. slot_of x ∷ l) (others_split s xs after (λ h. not_before (inr h)) not_after))
 
--- a slot in a ring of its own
+-- a slot in its own ring
 module _ (links : List Links) (s : ℕ) (alone : Joins links s s) where
   alone_apart : (slots hub : ℕ) (nodes : List ℕ) → HasRing links slots hub nodes → In s nodes → ⊥
   alone_apart slots hub nodes ring h =
@@ -134,7 +134,7 @@ module _ (links : List Links) (max : ℕ) (t : IsThreaded links max) where
     pub taken : IsInside
     taken = elim (t.others_alone s small) [ inl h ↦ out_of_listed h | inr alone ↦ out_of_alone alone ]
 
--- a node gets a ring of its own
+-- a node gets its own ring
 module _ (links : List Links) (s : ℕ) (inside : s < length links) where
   link_at-isolated : (node : ℕ) → node ≢ s → link_at (isolated links s) node ≡ link_at links node
   link_at-isolated node other = get_or-set_other links s node (lone s) (record { before = 0; after = 0 }) other
@@ -221,7 +221,7 @@ module _ (links : List Links) (max : ℕ) (is : links ≡ map lone (range_with_l
       let none : slots_to links max max max ≡ [] = rw is (ring_slots (map lone (range_with_len 0 (max + 1))) max [] (HasRing-lone (max + 1) max max (omega arith) (omega arith))) in
       rw none refl
 
--- the node after the hub, if these slots are listed
+-- the node after the sentinel, if these slots are listed
 pub record IsFirst (max : ℕ) (slots : List Slot) (node : ℕ) : Type 0 where
   pub none : node ≡ max → first_of slots ≡ None
   pub some : node ≢ max → first_of slots ≡ Some (slot_of node)

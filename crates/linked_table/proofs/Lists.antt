@@ -1,10 +1,11 @@
--- Lists: some, each and each two elements, what filters keep, and a list split at one of its elements.
+-- Lists: some, each and each two elements, what filters keep, and a list split at one of its
+-- elements.
 use Rattle.std.proofs.Common.{zero, suc, inl, inr, ◌⊎◌, List, [], ◌∷◌, refl, sym, subst, arith, ◌≡◌, Bool, true, false, cond, ap, ◌∙◌, ℕ, ◌<◌, ◌++◌, length, get_or, map}
 use Rattle.std.specs.List.{Any, AllPairs, filter, AllByRecursion}
 use Rattle.std.proofs.lemmas.List.Elements.{All-from_recursion}
 use Rattle.linked_table.specs.Table.{Pairwise}
 
--- Facts of some, of each and of each two elements of a list, by recursion on it.
+-- Facts about some, about each and about each two elements of a list, by recursion on it.
 
 module _ {X : Type 0} (P : X → Type 0) where
   pub Any-head : (x : X) (xs : List X) → P x → Any P (x ∷ xs)
@@ -54,7 +55,7 @@ module _ {X : Type 0} where
 -- A list split at one of its elements.
 
 module _ {X : Type 0} where
-  -- an element of which `P` holds, with those before it and those after it
+  -- an element for which `P` holds, with those before it and those after it
   pub record Split (P : X → Type 0) (xs : List X) : Type 0 where
     pub before : List X
     pub here : X

@@ -1,4 +1,5 @@
--- Writes to a node, a slot or a bucket, by what each changes; and the nodes of a new table, whose slots are all free.
+-- Writes to a node, a slot or a bucket, by what each changes; and the nodes of a new table, whose
+-- slots are all free.
 use Rattle.std.proofs.Common.{◌≡◌, ℕ, ◌+◌, ◌-◌, ◌<◌, ◌≤◌, Option, List, ◌++◌, length, set, get_or, refl, sym, ap, ◌∙◌, arith, length-set, length-append, ◌≢◌, ◌*◌, ◌/◌, ◌%◌, ◌^◌, Some, None, [], get_or-set_same, get_or-set_other, zero, suc, inl, inr, ◌∷◌, map, replicate, subst, add-one}
 use Rattle.std.proofs.lemmas.List.{length-map, get_or-map, map-set, set-append_left, set-append_right, get_or_append_left, get_or-append_right, get_or_default, length-replicate, map-append}
 use Rattle.std.proofs.Math.Seq.{map-set_same}
@@ -68,7 +69,7 @@ module _ {K V : Type 0} where
       let first : columns mid ≡ record (columns nodes) { recency = with_after (columns nodes).recency x.recent.before x.recent.after } = ap columns mid_is ∙ recent_after nodes x.recent.before y y_is (omega (arith, before_in, ap (λ (l : Links). l.before) here)) x.recent.after in
       recent_before mid x.recent.after z z_is (omega (arith, after_in, ap (λ (l : Links). l.after) here, same)) x.recent.before ∙ (ap (λ (cols : Columns K V). record cols { recency = with_before cols.recency x.recent.after x.recent.before }) first ∙ ap (λ (l : Links). record (columns nodes) { recency = with_before (with_after (columns nodes).recency l.before l.after) l.after l.before }) here)
 
-  -- a node is linked in by recency as the last before a hub
+  -- a node is linked in by recency as the last before a sentinel
   pub link_read : (nodes : List (Node K V)) (hub node : ℕ) (x y z w : Node K V) → x ≡ get_or nodes hub x → hub < length nodes → node < length nodes → (link_at (columns nodes).recency hub).before < length nodes → y ≡ get_or nodes x.recent.before y → (led mid : List (Node K V)) → led ≡ set nodes x.recent.before (relinked y (record y.recent { after = node })) → z ≡ get_or led node z → mid ≡ set led node (relinked z (record { before = x.recent.before; after = hub })) → w ≡ get_or mid hub w → columns (set mid hub (relinked w (record w.recent { before = node }))) ≡ record (columns nodes) { recency = linked_last (columns nodes).recency hub node }
   link_read nodes hub node x y z w x_is hub_in node_in last_in y_is led mid led_is z_is mid_is w_is =
       let last : x.recent.before ≡ (link_at (columns nodes).recency hub).before = ap (λ (l : Links). l.before) (recent_here nodes hub x x_is hub_in) in
@@ -79,7 +80,7 @@ module _ {K V : Type 0} where
       let second : columns mid ≡ record (columns nodes) { recency = set (with_after (columns nodes).recency x.recent.before node) node here } = ap columns mid_is ∙ (set_recent led node z z_is here ∙ ap (λ (cols : Columns K V). record cols { recency = set cols.recency node here }) first) in
       recent_before mid hub w w_is (omega (arith, hub_in, led_len, mid_len)) node ∙ (ap (λ (cols : Columns K V). record cols { recency = with_before cols.recency hub node }) second ∙ ap (λ l. record (columns nodes) { recency = with_before (set (with_after (columns nodes).recency l node) node (record { before = l; after = hub })) hub node }) last)
 
-  -- a hub of a bucket, read and written, in the list of all links in buckets
+  -- a sentinel of a bucket, read and written, in the list of all links in buckets
   pub hub_read : (nodes : List (Node K V)) (hubs : List Links) (i : ℕ) → length nodes ≤ i → link_at hubs (i - length nodes) ≡ link_at (chains_of nodes hubs) i
   hub_read nodes hubs i past = sym (get_or-append_right (columns nodes).chains hubs (length nodes) i blank (length-map nodes (λ n. n.chain)) past)
 
@@ -108,7 +109,7 @@ module _ {K V : Type 0} where
     pub before_in_node : (before : ℕ) → (columns (set nodes i (rechained x (record x.chain { before = before })))).chains ++ hubs ≡ with_before (chains_of nodes hubs) i before
     before_in_node before = chain_set _ ∙ ap (λ (l : Links). set (chains_of nodes hubs) i (record l { before = before })) chain_read
 
-  -- the same of a hub that was read
+  -- the same of a sentinel that was read
   module _ (nodes : List (Node K V)) (hubs : List Links) (i at : ℕ) (past : length nodes ≤ i) (at_is : at ≡ i - length nodes) (inside : i < length nodes + length hubs) (x : Links) (is : x ≡ get_or hubs at x) where
     hub_is : x ≡ link_at (chains_of nodes hubs) i
     hub_is = is ∙ (get_or_default hubs at x blank (omega arith) ∙ (ap (link_at hubs) at_is ∙ hub_read nodes hubs i past))
@@ -163,7 +164,7 @@ module _ {K V : Type 0} where
     pub moved_chains : (columns new).chains ++ hubs ≡ (columns nodes).chains ++ hubs
     moved_chains = ap (λ (cols : Columns K V). cols.chains ++ hubs) moved
 
-    -- a number below that of the links in buckets is below that of nodes and hubs
+    -- a number below that of the links in buckets is below that of nodes and sentinels
     pub moved_below : (at : List Links → ℕ) → at (chains_of nodes hubs) < length (chains_of nodes hubs) → at ((columns new).chains ++ hubs) < length new + length hubs
     moved_below at inside =
         let same : at ((columns new).chains ++ hubs) ≡ at (chains_of nodes hubs) = ap at moved_chains in
@@ -181,7 +182,7 @@ module _ {K V : Type 0} where
 
 -- A write to one slot, the bucket of a hash, and a change of one bucket.
 
--- the key in a pair that is there
+-- the key in a pair that is present
 abbrev key_or : {A B : Type 0} → A → Option (A × B) → A
 key_or key None = key
 key_or key (Some pair) = pair.0

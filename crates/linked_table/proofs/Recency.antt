@@ -14,7 +14,7 @@ use Rattle.linked_table.proofs.Nodes.{bucket_below, same_key, Writes, writes, Ch
 -- An entry moves to the end of the ring by recency.
 
 module _ {K V : Type 0} (hash : K → ℕ) (max : ℕ) (nodes : Columns K V) (hubs : List Links) (len : ℕ) (sound : IsSound hash max nodes hubs len) where
-  -- a slot in use, between those before it and after it in the list by nodes.recency
+  -- a slot in use, between those before it and after it in the list by recency
   pub record IsPlaced (s : ℕ) : Type 0 where
     pub key : K
     pub value : V
@@ -74,7 +74,7 @@ module _ {K V : Type 0} (hash : K → ℕ) (max : ℕ) (nodes : Columns K V) (hu
     placed_only table is =
         rw (placed_entries table is, at.pair) (only-entries nodes.pairs s at.key at.value at.pair at.before at.after (cut_not_before nodes.recency max max at.before s at.after at.has) (cut_not_after nodes.recency max max at.before s at.after at.has))
 
-    -- the node is linked in as the last before the hub of the entries
+    -- the node is linked in as the last before the sentinel of the entries
     pub touched_last_inside : (link_at (unlinked nodes.recency s) max).before < length nodes.recency
     touched_last_inside =
         omega (arith, push_last_inside (unlinked nodes.recency s) max max (at.before ++ at.after) placed_cut s placed_slot placed_gone, length-cut nodes.recency max max at.before s at.after at.has)
@@ -181,7 +181,7 @@ module _ {K V : Type 0} (hash : K → ℕ) (max : ℕ) (nodes : Columns K V) (hu
       let key_is : at.key ≡ hashed.key = same_key at.key hashed.key at.value hashed.value (sym at.pair ∙ hashed.pair) in
       ne (sym hashed.bucket_is ∙ ap (λ k. bucket_number (hash k) (length sound.buckets)) (sym key_is))
 
-  -- the node is linked in as the last before the hub of the free slots
+  -- the node is linked in as the last before the sentinel of the free slots
   pub freed_last_inside : (link_at (unlinked nodes.recency s) (max + 1)).before < length nodes.recency
   freed_last_inside =
       omega (arith, push_last_inside (unlinked nodes.recency s) max (max + 1) sound.free (placed_cut_free hash max nodes hubs len sound s at) s (placed_slot hash max nodes hubs len sound s at) at.not_free, length-cut nodes.recency max max at.before s at.after at.has)

@@ -1,4 +1,5 @@
--- Rings of nodes: the neighbours of a node, and what changes if a node is unlinked, or linked in as the last before the hub.
+-- Rings of nodes: the neighbours of a node, and what changes if a node is unlinked, or linked in as
+-- the last before the sentinel.
 use Rattle.std.proofs.Common.{◌≡◌, ℕ, inl, inr, ◌⊎◌, List, [], ◌∷◌, ◌++◌, ap, length, refl, sym, subst, ◌∙◌, arith, length-append, append_assoc, ◌≢◌, ◌<◌, set, length-set, get_or-set_same, get_or-set_other}
 use Rattle.std.proofs.lemmas.Bool.{cases_eq}
 use Rattle.linked_table.specs.Rings.{In, link_at, walk, IsRing, Joins, with_after, with_before, unlinked, linked_last, HasRing}
@@ -65,7 +66,7 @@ module _ (links : List Links) where
   ring_tail p [] s after q ring = ring.1
   ring_tail p (x ∷ xs) s after q ring = ring_tail x xs s after q ring.1
 
-  -- the links from one node lead to the hub in one way
+  -- the links from one node lead to the sentinel in one way
   pub ring_unique : (hub p : ℕ) (xs ys : List ℕ) → (In hub xs → ⊥) → (In hub ys → ⊥) → IsRing links p xs hub → IsRing links p ys hub → xs ≡ ys
   ring_unique hub p [] [] not_x not_y r s = refl
   ring_unique hub p [] (y ∷ ys) not_x not_y r s = absurd (not_y (inl (sym s.0.on ∙ r.on)))
@@ -203,7 +204,7 @@ module _ (links new : List Links) (s : ℕ) (writes : Unlinks links new s) (from
   IsRing-unlinked p (y ∷ ys) after q not_p not_b not_a not_q ring =
       (Joins-unlinked p y not_p (λ same. not_b (inl same)) ring.0, IsRing-unlinked y ys after q (λ same. not_b (inl same)) (λ h. not_b (inr h)) not_a not_q ring.1)
 
--- the links after a node became the last before a hub
+-- the links after a node became the last before a sentinel
 pub record LinksLast (links new : List Links) (hub s : ℕ) : Type 0 where
   pub number : length new ≡ length links
   pub last_after : (link_at new (link_at links hub).before).after ≡ s
@@ -233,7 +234,8 @@ links_last links hub s s_in hub_in last_in not_hub not_last =
       before_else = λ j not_h not_s. ap (λ (l : Links). l.before) (get_or-set_other mid hub j _ blank not_h) ∙ (ap (λ (l : Links). l.before) (get_or-set_other led s j here blank not_s) ∙ before-with_after links p s j last_in);
     }
 
--- a ring keeps its links if a node that is not in it is linked in elsewhere, and the hub's ring gets the node
+-- a ring keeps its links if a node that is not in it is linked in elsewhere, and the sentinel's
+-- ring gets the node
 module _ (links new : List Links) (hub s : ℕ) (writes : LinksLast links new hub s) (from_last : (link_at links (link_at links hub).before).after ≡ hub) where
   Joins-linked : (a b : ℕ) → a ≢ s → b ≢ s → b ≢ hub → Joins links a b → Joins new a b
   Joins-linked a b not_a not_b not_hub joins = record {
@@ -256,7 +258,7 @@ module _ (links new : List Links) (hub s : ℕ) (writes : LinksLast links new hu
   IsRing-linked p (x ∷ xs) not_p not_s no_hub ring =
       (Joins-linked p x not_p (λ same. not_s (inl same)) (λ same. no_hub (inl same)) ring.0, IsRing-linked x xs (λ same. not_s (inl same)) (λ h. not_s (inr h)) (λ h. no_hub (inr h)) ring.1)
 
--- The rings of hubs, after a slot was unlinked from one or linked in as its last.
+-- The rings of sentinels, after a slot was unlinked from one or linked in as its last.
 
 pub hub_apart : {links : List Links} {slots hub : ℕ} {nodes : List ℕ} → HasRing links slots hub nodes → In hub nodes → ⊥
 hub_apart {links} {slots} {hub} has h = omega (arith, has.inside hub h, has.past)
@@ -289,7 +291,7 @@ module _ (links : List Links) (slots hub : ℕ) (before : List ℕ) (s : ℕ) (a
   pub cut_not_after : In s after → ⊥
   cut_not_after = not_after links hub hub before s after (hub_apart has) has.ring
 
-  -- the node before the hub is the last of the ring
+  -- the node before the sentinel is the last of the ring
   pub last_ends : s ≡ (link_at links hub).before → after ≡ []
   last_ends last = go after refl
     where
@@ -332,7 +334,7 @@ module _ (links : List Links) (slots hub : ℕ) (before : List ℕ) (s : ℕ) (a
         hub_in = omega (arith, others.hub_in, cut_writes.number);
       }
 
-  -- a node in a ring of its own stays alone
+  -- a node in its own ring stays alone
   pub Joins-cut : (node : ℕ) → node ≢ s → Joins links node node → Joins (unlinked links s) node node
   Joins-cut node other alone = IsRing-unlinked_other links (unlinked links s) s cut_writes cut_back cut_on node [] node other (λ h. h) other alone
 

@@ -1,4 +1,5 @@
--- The walk along the ring of the entries, from the least recently touched on, and the walk along the ring of a bucket.
+-- The walk along the ring of the entries, from the least recently touched on, and the walk along
+-- the ring of a bucket.
 use Rattle.std.proofs.Common.{◌≡◌, ◌≢◌, ℕ, ◌+◌, ◌-◌, ◌<◌, Bool, true, false, inl, inr, Option, Some, None, List, [], ◌∷◌, ◌++◌, length, get_or, refl, sym, ap, subst, ◌∙◌, arith, append_assoc, append-nil, ◌≤◌, Bor}
 use Rattle.std.specs.Fn.{Shared}
 use Rattle.std.specs.List.{All, AllByRecursion}
@@ -101,7 +102,7 @@ module _ {K V F : Type 0} (calls : Shared F (Slot × (Bor V × Unit {0})) Bool) 
         go (x ∷ xs) rest_is = absurd (omega (arith, ap length rest_is, scan.number, out))
 
   module _ (hash : K → ℕ) (max : ℕ) (nodes : Columns K V) (hubs : List Links) (len : ℕ) (sound : IsSound hash max nodes hubs len) (table : Table K V) (is : table_of max nodes len ≡ table) where
-    -- the walk begins at the hub
+    -- the walk begins at the sentinel
     pub scan_begins : (node : ℕ) → node ≡ max → IsScan max nodes table.entries node len
     scan_begins node node_is = rw node_is (record {
       passed = [];
@@ -122,7 +123,8 @@ module _ {K V F : Type 0} (calls : Shared F (Slot × (Bor V × Unit {0})) Bool) 
 
 -- The walk along the ring of one bucket.
 
--- the walk is at a node: the slots left in the ring have pairs, and a slot that has the key is one of them
+-- the walk is at a node: the slots left in the ring have pairs, and a slot that has the key is one
+-- of them
 pub record IsSearch {K V : Type 0} (pairs : List (Option (K × V))) (chains : List Links) (hub : ℕ) (key : K) (node left : ℕ) : Type 0 where
   pub rest : List ℕ
   pub from : ℕ
@@ -179,7 +181,7 @@ module _ {K V : Type 0} (pairs : List (Option (K × V))) (chains : List Links) (
             };
           }
 
-  -- at the hub, or after `len` steps, no slot is left
+  -- at the sentinel, or after `len` steps, no slot is left
   pub none_left : (node ≡ hub) → search_at.rest ≡ []
   none_left at_hub = go search_at.rest refl search_at.ring
     where
@@ -201,7 +203,7 @@ module _ {K V : Type 0} (hash : K → ℕ) (max : ℕ) (nodes : Columns K V) (hu
   in_range : bucket_number (hash key) (length sound.buckets) < length sound.buckets
   in_range = bucket_below (hash key) (length sound.buckets) sound.some_bucket
 
-  -- the walk begins after the hub of the key's bucket
+  -- the walk begins after the sentinel of the key's bucket
   pub begins : (hub : ℕ) → hub ≡ max + 2 + bucket_number (hash key) (length sound.buckets) → (node : ℕ) → node ≡ (link_at (nodes.chains ++ hubs) hub).after → IsSearch nodes.pairs (nodes.chains ++ hubs) hub key node len
   begins hub hub_is node node_is =
       let b = bucket_number (hash key) (length sound.buckets) in

@@ -9,7 +9,7 @@ use Rattle.linked_table.specs.contracts.table.LinkedTable.{the_row}
 abbrev pub KeyMembers : Type 0 → Type 0
 KeyMembers K = record { eq : K → K → Bool; hash_of : K → ℕ → ℕ }
 
--- The entry of this slot has the last value behind `r`, and all else is unchanged.
+-- The entry of this slot has the last value after `r`, and all else is unchanged.
 abbrev pub lends_value : (K V : RattleType) → KeyMembers K.Denot → MutBor (Table K.Denot V.Denot) → Slot → MutBor V.Denot → Fml
 lends_value K V key t slot r =
     Lends (the_row K V (record { hash_of = key.hash_of }) (record { eq = key.eq })) V t r (λ value. record t.now { entries = with_value t.now.entries slot value })

@@ -19,17 +19,18 @@ abbrev pub first_of : List Slot → Option Slot
 first_of [] = None
 first_of (slot ∷ slots) = Some slot
 
--- The slots after a node up to its hub, at most `most` of them.
+-- The slots after a node up to its sentinel, at most `most` of them.
 abbrev pub slots_to : List Links → (hub most from : ℕ) → List Slot
 slots_to links hub zero from = []
 slots_to links hub (suc most) from =
     if (link_at links from).after == hub then [] else slot_of (link_at links from).after ∷ slots_to links hub most (link_at links from).after
 
--- What contracts see of nodes for `max` slots, followed by their hub: the slots of the hub's ring.
+-- What contracts see of nodes for `max` slots, followed by their sentinel: the slots of the
+-- sentinel's ring.
 abbrev pub listing_of : List Links → (max : ℕ) → Listing
 listing_of links max = record { slots = slots_to links max max max; max = max }
 
--- Each slot is in the ring of the listed slots, or in a ring of its own.
+-- Each slot is in the ring of the listed slots, or in its own ring.
 pub record IsThreaded (links : List Links) (max : ℕ) : Type 0 where
   pub listed : List ℕ
   pub ring : HasRing links max max listed

@@ -2,7 +2,7 @@
 use Rattle.std.specs.Prelude.{◌≡◌, ℕ, zero, suc, ◌<◌, ◌≤◌, ◌⊎◌, List, [], ◌∷◌, length, slice_index_or, slice_set}
 use Rattle.linked_table.specs.declared.ring.Links.{Links}
 
--- The links of a node in a ring of its own.
+-- The links of a node in its own ring.
 abbrev pub lone : ℕ → Links
 lone node = record { before = node; after = node }
 
@@ -30,7 +30,8 @@ abbrev pub IsRing : List Links → ℕ → List ℕ → ℕ → Type 0
 IsRing links from [] to = Joins links from to
 IsRing links from (x ∷ xs) to = Joins links from x × IsRing links x xs to
 
--- The links from the hub lead through these nodes back to it. All of them are slots, and the hub is not.
+-- The links from the sentinel lead through these nodes back to it. All of them are slots, and the
+-- sentinel is not.
 pub record HasRing (links : List Links) (slots hub : ℕ) (nodes : List ℕ) : Type 0 where
   pub ring : IsRing links hub nodes hub
   pub inside : (node : ℕ) → In node nodes → node < slots
@@ -50,11 +51,11 @@ abbrev pub unlinked : List Links → ℕ → List Links
 unlinked links node =
     with_before (with_after links (link_at links node).before (link_at links node).after) (link_at links node).after (link_at links node).before
 
--- The links, with this node in a ring of its own.
+-- The links, with this node in its own ring.
 abbrev pub isolated : List Links → ℕ → List Links
 isolated links node = slice_set links node (lone node)
 
--- The links, with this node as the last before the hub.
+-- The links, with this node as the last before the sentinel.
 abbrev pub linked_last : List Links → ℕ → ℕ → List Links
 linked_last links hub node =
     with_before (slice_set (with_after links (link_at links hub).before node) node (record { before = (link_at links hub).before; after = hub })) hub node

@@ -11,7 +11,8 @@ use Rattle.linked_table.specs.Table.{Entry, Table}
 abbrev pub slot_of : ℕ → Slot
 slot_of node = record { 0 = node }
 
--- The bucket of a hash, of so many: the low 32 bits of the product of its halves, scaled to their number.
+-- The bucket of a hash, of this number of buckets: the low 32 bits of the product of its halves,
+-- scaled to their number.
 unfoldable pub bucket_number : (hash buckets : ℕ) → ℕ
 bucket_number hash buckets = hash % 2 ^ 32 * (hash / 2 ^ 32) % 2 ^ 32 * buckets / 2 ^ 32
 
@@ -46,7 +47,8 @@ module _ {K V : Type 0} where
   entries_of pairs [] = []
   entries_of pairs (node ∷ nodes) = cons_entry node (pair_at pairs node) (entries_of pairs nodes)
 
-  -- A table as contracts see it: the entries in the ring by recency, whose hub follows the slots.
+  -- A table as contracts see it: the entries in the ring by recency, whose sentinel follows the
+  -- slots.
   abbrev pub table_of : (max : ℕ) → Columns K V → (len : ℕ) → Table K V
   table_of max nodes len = record { entries = entries_of nodes.pairs (walk nodes.recency len max); max = max }
 
@@ -57,10 +59,12 @@ module _ {K V : Type 0} where
     pub pair : pair_at pairs node ≡ Some (key, value)
     pub bucket_is : bucket_number (hash key) (length buckets) ≡ bucket
 
-  -- The slots with a pair are those in the list by recency, each is in the bucket of its key, and no key occurs twice. The
-  -- nodes after the slots are two hubs, of the entries and of the free slots; the hubs of the buckets are numbered after them.
+  -- The slots with a pair are those in the list by recency, each is in the bucket of its key, and
+  -- no key occurs twice. The nodes after the slots are two sentinels, of the entries and of the
+  -- free slots; the sentinels of the buckets are numbered after them.
   pub record IsSound (hash : K → ℕ) (max : ℕ) (nodes : Columns K V) (hubs : List Links) (len : ℕ) : Type 0 where
-    -- The slots of the entries, least recently touched first, the free slots, and the slots of each bucket.
+    -- The slots of the entries, least recently touched first, the free slots, and the slots of each
+    -- bucket.
     pub used : List ℕ
     pub free : List ℕ
     pub buckets : List (List ℕ)

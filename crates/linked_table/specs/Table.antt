@@ -27,7 +27,7 @@ abbrev pub table_code : {K V : Type 0} → Coded K → Coded V → Coded (Table 
 table_code {K} {V} k v =
     code_by (List (Entry K V) × ℕ) (coded× (coded_list (entry_code k v)) coded_ℕ) (λ t. (t.entries, t.max)) (λ p. record { entries = p.0; max = p.1 }) (λ _. refl)
 
--- `R` holds of each element and each later one.
+-- `R` holds for each element and each later one.
 abbrev pub Pairwise : {X : Type 0} → (X → X → Type 0) → List X → Type 0
 Pairwise R [] = Unit {0}
 Pairwise R (x ∷ xs) = AllByRecursion (R x) xs × Pairwise R xs
@@ -45,11 +45,12 @@ module _ {K V : Type 0} where
   abbrev pub HasNone : List (Entry K V) → K → Type 0
   HasNone entries key = All (λ e. e.key ≢ key) entries
 
-  -- `P` holds of the entry of this slot.
+  -- `P` holds for the entry of this slot.
   abbrev pub Wherever : List (Entry K V) → Slot → (Entry K V → Type 0) → Type 0
   Wherever entries slot P = All (λ e. e.slot ≡ slot → P e) entries
 
-  -- The entry of this slot, with those before it and those after it, none of which has its slot or its key.
+  -- The entry of this slot, with those before it and those after it, none of which has its slot or
+  -- its key.
   pub record SplitAt (entries : List (Entry K V)) (slot : Slot) : Type 0 where
     pub before : List (Entry K V)
     pub here : Entry K V

@@ -17,9 +17,9 @@ fn fold(number: u128) -> u64
 /// Returns the hash of two words under a seed: the value of the polynomial
 /// `first * x^2 + second * x` modulo the prime 2^61 - 1 at a point x from 1 to 2^60 that the seed
 /// chooses. Two different pairs of words below the prime have the same hash at no more than one of
-/// the points: divided by x, the difference of their polynomials has degree one at most, so one
-/// root at most. So pairs that share a hash are hard to choose without the seed, and few of those
-/// chosen anyhow share a bucket; nothing here proves it.
+/// the points. Divided by x, the difference of their polynomials has degree one at most, so one
+/// root at most. So pairs that share a hash are hard to choose without the seed, and few pairs
+/// chosen in another way share a bucket. Nothing here proves it.
 #[inline]
 pub fn hash_words(seed: u64, first: u64, second: u64) -> u64
     ensures { result ≡ hash_of_words seed first second }

@@ -7,15 +7,15 @@
 //! the value last written through it. A `SlotList` is a list of slots: it is empty at opening, a
 //! slot is put last or taken out, no slot occurs twice, and the first is returned. `hash_words` is
 //! the value of a polynomial over its two words, modulo a prime, at a point that the seed chooses.
-//! That words which share a bucket are hard to choose without the seed is not proved.
+//! It is not proved that words which share a bucket are hard to choose without the seed.
 //!
 //! Choices: the slots are one vector. A slot has its key and value, its neighbours by recency or
-//! among the free slots, and its neighbours in its bucket: a look-up reads the hub of the bucket
-//! and the slots there up to its own, nothing else. Two hubs follow the slots, of the entries and
-//! of the free slots, so linking and unlinking in these rings has no branch. The hubs of the
-//! buckets are a vector of their own, of 8 octets each, one more than slots, so never none. A
-//! bucket is picked by products, which are faster than a division. The slot freed last is filled
-//! first, so that few live entries touch little memory.
+//! among the free slots, and its neighbours in its bucket. A look-up reads the sentinel of the
+//! bucket and the slots there up to its own, nothing else. Two sentinels follow the slots, of the
+//! entries and of the free slots, so linking and unlinking in these rings has no branch. The
+//! sentinels of the buckets are in a separate vector, of 8 octets each, one more than slots, so
+//! never none. A bucket is picked by products, which are faster than a division. The slot freed
+//! last is filled first, so that few live entries touch little memory.
 #![tactic(auto)]
 
 mod hash;

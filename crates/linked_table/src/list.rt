@@ -11,8 +11,8 @@ use std::marker::Model;
 /// Some of the slots of a table, in order, none of them twice.
 #[derive(Drop)]
 pub struct SlotList {
-    // One node for each slot, and the hub of the listed slots. A slot that is not listed is in a
-    // ring of its own: to unlink it changes nothing, so taking out has no branch.
+    // One node for each slot, and the sentinel of the listed slots. A slot that is not listed is in
+    // its own ring: unlinking it changes nothing, so removal has no branch.
     links: Rings,
     max: u32,
 }

@@ -5,19 +5,20 @@ ghost use Rattle.linked_table.specs.Nodes.{columns, chains_of, Rechains, lone_no
 
 use crate::ring::Links;
 
-/// Slot of a table with its links, or the hub of the ring of the used or of the free slots.
+/// Slot of a table with its links, or the sentinel of the ring of the used or of the free slots.
 #[derive(Drop)]
 pub(crate) struct Node<K, V> {
     /// Neighbours in the ring of the used or of the free slots.
     pub(crate) recent: Links,
-    /// Neighbours in the ring of a bucket. The hub of bucket `b` has the number `nodes.len() + b`.
+    /// Neighbours in the ring of a bucket. The sentinel of bucket `b` has the number
+    /// `nodes.len() + b`.
     pub(crate) chain: Links,
     /// Key and value of an entry.
     pub(crate) pair: Option<(K, V)>,
 }
 
 impl<K, V> Node<K, V> {
-    /// Returns a node without a pair, in rings of its own.
+    /// Returns a node without a pair, alone in its rings.
     pub(crate) fn lone(node: u32) -> Node<K, V>
         ensures { result ≡ lone_node node }
     {
@@ -41,7 +42,7 @@ fn unlink<K, V>(nodes: &mut Vec<Node<K, V>>, node: u32)
     nodes[here.after as usize].recent.before = here.before;
 }
 
-/// Links a node that is in no ring by recency as the last before this hub.
+/// Links a node that is in no ring by recency as the last before this sentinel.
 pub(crate) fn link_last<K, V>(nodes: &mut Vec<Node<K, V>>, hub: u32, node: u32)
     requires inside { node < length nodes.old.items }
     requires hub_inside { hub < length nodes.old.items }
@@ -57,7 +58,7 @@ pub(crate) fn link_last<K, V>(nodes: &mut Vec<Node<K, V>>, hub: u32, node: u32)
     nodes[hub as usize].recent.before = node;
 }
 
-/// Moves a node to the end of the ring by recency that has this hub.
+/// Moves a node to the end of the ring by recency that has this sentinel.
 pub(crate) fn move_last<K, V>(nodes: &mut Vec<Node<K, V>>, hub: u32, node: u32)
     requires inside { node < length nodes.old.items }
     requires before_inside { (link_at (columns nodes.old.items).recency node).before < length nodes.old.items }
@@ -70,7 +71,7 @@ pub(crate) fn move_last<K, V>(nodes: &mut Vec<Node<K, V>>, hub: u32, node: u32)
     link_last(nodes, hub, node);
 }
 
-// Sets the node after a node or hub of a bucket.
+// Sets the node after a node or sentinel of a bucket.
 fn set_after<K, V>(nodes: &mut Vec<Node<K, V>>, hubs: &mut Vec<Links>, at: u32, after: u32)
     requires { at < length nodes.old.items + length hubs.old.items }
     ensures { Rechains nodes.old.items hubs.old.items nodes.new.items hubs.new.items (with_after (chains_of nodes.old.items hubs.old.items) at after) }
@@ -83,7 +84,7 @@ fn set_after<K, V>(nodes: &mut Vec<Node<K, V>>, hubs: &mut Vec<Links>, at: u32, 
     }
 }
 
-// Sets the node before a node or hub of a bucket.
+// Sets the node before a node or sentinel of a bucket.
 fn set_before<K, V>(nodes: &mut Vec<Node<K, V>>, hubs: &mut Vec<Links>, at: u32, before: u32)
     requires { at < length nodes.old.items + length hubs.old.items }
     ensures { Rechains nodes.old.items hubs.old.items nodes.new.items hubs.new.items (with_before (chains_of nodes.old.items hubs.old.items) at before) }

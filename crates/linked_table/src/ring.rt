@@ -15,7 +15,7 @@ pub(crate) struct Links {
 }
 
 impl Links {
-    /// Returns the links of a node in a ring of its own.
+    /// Returns the links of a node in its own ring.
     pub(crate) fn lone(node: u32) -> Links
         ensures { result ≡ lone node }
     {
@@ -26,7 +26,7 @@ impl Links {
     }
 }
 
-/// Returns the links of `count` nodes, numbered from `first` on, each in a ring of its own.
+/// Returns the links of `count` nodes, numbered from `first` on, each in its own ring.
 pub(crate) fn lone_links(alloc: Global, first: u32, count: u32) -> Result<Vec<Links>, NoMemory>
     requires { first + count < 2 ^ 32 }
     ensures { IfOk result (λ links. links.items ≡ map lone (range_with_len first count)) }
@@ -51,8 +51,8 @@ impl Model for Rings {
 }
 
 impl Rings {
-    /// Creates `count` nodes, each in a ring of its own. For 2^32 or more it returns `NoMemory`:
-    /// their number does not fit 32 bits.
+    /// Creates `count` nodes, each in its own ring. For 2^32 or more it returns `NoMemory`: their
+    /// number does not fit 32 bits.
     pub(crate) fn open(alloc: Global, count: usize) -> Result<Rings, NoMemory>
         ensures { IfOk result (λ rings. rings ≡ map lone (range_with_len 0 count)) }
     {
@@ -92,7 +92,7 @@ impl Rings {
         links[after as usize].before = before;
     }
 
-    /// Puts a node that is in no other ring into a ring of its own.
+    /// Puts a node that is in no other ring into its own ring.
     pub(crate) fn isolate(&mut self, node: u32)
         requires { node < length self.old }
         ensures { self.new ≡ isolated self.old node }
@@ -100,7 +100,7 @@ impl Rings {
         self.links[node as usize] = Links::lone(node);
     }
 
-    /// Links a node that is in no ring as the last before this hub.
+    /// Links a node that is in no ring as the last before this sentinel.
     pub(crate) fn link_last(&mut self, hub: u32, node: u32)
         requires inside { node < length self.old }
         requires hub_inside { hub < length self.old }

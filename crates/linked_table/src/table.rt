@@ -23,10 +23,10 @@ pub struct Slot(pub u32);
 pub struct LinkedTable<K: Key, V> {
     seed: u64,
     max: u32,
-    // The slots, then the hub of the entries, from the oldest to the newest, and the hub of the free
-    // slots.
+    // The slots, then the sentinel of the entries, from the oldest to the newest, and the sentinel
+    // of the free slots.
     nodes: Vec<Node<K, V>>,
-    // One hub for each bucket; its ring has the entries of the bucket.
+    // One sentinel for each bucket; its ring has the entries of the bucket.
     hubs: Vec<Links>,
     len: u32,
 }
@@ -54,9 +54,9 @@ fn bucket_of<K: Key>(hashed: &Hashed<K>, seed: u64, buckets: usize) -> u32
     ensures inside { result < buckets }
 {
     let hash = hashed.hash_under(seed);
-    // Keys in sequence have hashes in arithmetic progression, of which the low bits alone may fall
-    // into few buckets: 33 of 65,536 connections in sequence into one, with the product of the
-    // halves at most 9.
+    // Keys in sequence have hashes in arithmetic progression, whose low bits alone may fall into
+    // few buckets. 33 of 65,536 connections in sequence fell into one; with the product of the
+    // halves it is at most 9.
     let mixed = (hash % (1 << 32)) * (hash >> 32) % (1 << 32);
     ((mixed * buckets as u64) >> 32) as u32
 }
@@ -73,7 +73,7 @@ fn free_nodes<K, V>(alloc: Global, max: u32) -> Result<Vec<Node<K, V>>, NoMemory
     Ok(nodes)
 }
 
-// Returns `count` nodes, each without a pair and in rings of its own.
+// Returns `count` nodes, each without a pair and alone in its rings.
 fn lone_nodes<K, V>(alloc: Global, count: u32) -> Result<Vec<Node<K, V>>, NoMemory>
     ensures { IfOk result (λ nodes. nodes.items ≡ map lone_node (range_with_len 0 count)) }
 {
@@ -104,7 +104,7 @@ impl<K: Key, V> LinkedTable<K, V> {
     pub fn open(alloc: Global, max: u32, seed: u64) -> Result<LinkedTable<K, V>, NoMemory>
         ensures { IfOk result (λ table. table ≡ record { entries = []; max = max }) }
     {
-        // There are 2 * max + 3 nodes and hubs.
+        // There are 2 * max + 3 nodes and sentinels.
         if max > (u32::MAX - 3) / 2 {
             return Err(NoMemory);
         }
@@ -137,7 +137,7 @@ impl<K: Key, V> LinkedTable<K, V> {
         self.len
     }
 
-    /// Returns the slot of the entry with this key.
+    /// Returns the slot of the entry with this key. None exactly if no entry has it.
     pub fn find(&self, key: &K) -> Option<Slot>
         ensures found { IfSome result (IsIn self.now.entries) }
         ensures same_key { IfSome result (λ slot. Wherever self.now.entries slot (λ e. e.key ≡ key.now)) }
@@ -302,7 +302,8 @@ impl<K: Key, V> LinkedTable<K, V> {
         Some(Slot(node))
     }
 
-    /// Returns the slot of the least recently touched entry that passes the test.
+    /// Returns the slot of the least recently touched entry that passes the test. None if none
+    /// passes.
     pub fn oldest_where<F: Fn(Slot, &V) -> bool>(&self, test: F) -> Option<Slot>
         requires { All (IsCallableAt F.Fn test) self.now.entries }
         ensures first { IfSome result (PassesFirst F.Fn test self.now.entries) }

@@ -120,6 +120,7 @@ next-record seed count made number x flow flows turn octets step follows own few
     let stands : get_or flows flow New ≡ flow_after (actions_before seed (flow_of x) made) = flow-at seed made flow flows step.each_flow few ∙ ap (λ f. flow_after (actions_before seed f made)) own in
     ap (record_with made) (written ∙ (λ i. packet_octets (made % 65536) (segment_for (own i) ((does ∙ ap (turn_of (action_of x)) stands) i)))) ∙ ap (λ n. record_with made (packet_octets (made % 65536) (segment_numbered seed made n))) is
 
--- each part of the buffer is filled from its start, and the octets filled are the two parts one after the other
+-- each part of the buffer is filled from its start, and the octets filled are the two parts one
+-- after the other
 pub filled : (a b : ℕ) (h m front back x y : List ℕ) → a ≡ 20 → length front ≡ 20 → length h ≡ 20 → length m ≡ b → x ≡ h ++ drop 20 front → y ≡ m ++ drop b back → take (a + b) (x ++ y) ≡ h ++ m
 filled a b h m front back x y size full of_h of_m first second = grind (arith, common_steps)

@@ -7,11 +7,13 @@ use Rattle.load_make.specs.Sequence.{number_at, flow_of, action_of, actions_befo
 use Rattle.load_make.specs.Flows.{flow_after, turn_of}
 use Rattle.load_make.specs.Packets.{segment_for, packet_octets}
 
--- the record at the position `place` with these octets: one record each millisecond, its time in seconds and microseconds, without a side
+-- the record at the position `place` with these octets: one record each millisecond, its time in
+-- seconds and microseconds, without a side
 abbrev pub record_with : (place : ℕ) → (octets : List ℕ) → Packet
 record_with place octets = record { seconds = place / 1000; fraction = place % 1000 * 1000; original = length octets; side = None; octets = octets }
 
--- the segment of the record at the position `place` with this number: the next one of its connection
+-- the segment of the record at the position `place` with this number: the next one of its
+-- connection
 abbrev pub segment_numbered : (seed place number : ℕ) → Segment
 segment_numbered seed place number =
     segment_for (flow_of number) (turn_of (action_of number) (flow_after (actions_before seed (flow_of number) place)))

@@ -1,4 +1,5 @@
--- The segments and the packets of a load (this project's profile, over RFC 791 section 3.1 and RFC 9293 section 3.1).
+-- The segments and the packets of a load (this project's profile, over RFC 791 section 3.1 and RFC
+-- 9293 section 3.1).
 use Rattle.std.specs.Prelude.{ℕ, ◌+◌, ◌-◌, ◌*◌, ◌%◌, ◌^◌, false, List, [], ◌∷◌, ◌++◌, length, drop, map}
 use Rattle.std.specs.List.{range_with_len}
 use Rattle.wire_base.specs.Segments.{Segment}

@@ -1,4 +1,5 @@
--- The pseudo-random numbers that determine the records of a load (this project's profile): the first follows the seed, and each the one before.
+-- The pseudo-random numbers that determine the records of a load (this project's profile): the
+-- first follows the seed, and each the one before.
 use Rattle.std.specs.Prelude.{ℕ, zero, suc, ◌+◌, ◌*◌, ◌/◌, ◌%◌, ◌^◌, ◌==◌, List, [], ◌∷◌, map, filter}
 
 -- the number that follows this one: a linear congruential generator modulo 2^64

@@ -1,7 +1,7 @@
 //! A load for measurements: records made from a seed.
 //!
-//! Proved: `Load::next` returns exactly the records that the seed and the count define, one a call,
-//! and none after the last.
+//! Proved: `Load::next` returns exactly the records that the seed and the count define, one per
+//! call, and none after the last.
 #![tactic(auto)]
 
 pub mod flow;

@@ -37,7 +37,7 @@ impl Model for Load {
 }
 
 impl Load {
-    /// Returns a load of `count` records, of which none is made.
+    /// Returns a load of `count` records before the first is made.
     pub fn new(seed: u64, count: u32) -> Load
         ensures { result ≡ record { seed = seed; count = count; made = 0 } }
     {
@@ -51,7 +51,7 @@ impl Load {
     }
 
     /// Returns the next record, with its octets in the buffer, or None after the last. It is of raw
-    /// IP, with its time in seconds and microseconds.
+    /// IP, with its time in seconds and microseconds. A record has at most 552 octets.
     pub fn next<'a>(&mut self, buf: &'a mut [u8]) -> Option<Record<'a>>
         requires room { 552 ≤ length buf.old }
         ensures record { option_map shown result ≡ slice_get (Generated self.old.seed self.old.count) self.old.made }

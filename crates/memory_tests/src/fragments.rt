@@ -201,7 +201,7 @@ fn holds(case: Case, assembly: &mut Assembly, buf: &mut [u8]) -> bool
     }
 }
 
-// The only function that owns an assembly.
+// Owns the assembly, which no other function does.
 fn is_held(alloc: Global, limit: Limit, case: Case) -> Result<bool, Fail> {
     let mut buf = vec![in alloc; 0u8; 65_515]?;
     let mut assembly = Assembly::open(alloc, &settings(limit))?;
@@ -210,7 +210,7 @@ fn is_held(alloc: Global, limit: Limit, case: Case) -> Result<bool, Fail> {
 
 #[rattlefmt::skip]
 const CASES: &[(Limit, Case)] = &[
-    // Pieces that agree make a datagram.
+    // Fragments that agree make a datagram.
     (Limit::None, Case::Agree),
     // An octet that differs ends a datagram.
     (Limit::None, Case::Clash),
@@ -218,11 +218,11 @@ const CASES: &[(Limit, Case)] = &[
     (Limit::None, Case::EndAt65515),
     // One datagram at a time, and no longer than its time.
     (Limit::OneDatagram, Case::TakeTurns),
-    // No piece is held without a free cell.
+    // No fragment is held without a free cell.
     (Limit::FewestCells, Case::Fill),
-    // The first piece at offset 0 gives the header.
+    // The first fragment at offset 0 gives the header.
     (Limit::None, Case::BeginTwice),
-    // A last piece that ends elsewhere ends a datagram.
+    // A last fragment that ends elsewhere ends a datagram.
     (Limit::None, Case::EndTwice),
 ];
 

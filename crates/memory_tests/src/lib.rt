@@ -1,5 +1,5 @@
-//! Tests of pools of cells, of stores of octets, of tables in order of recency, and of datagrams made
-//! of fragments.
+//! Tests of pools of cells, of stores of octets, of tables in order of recency, and of datagrams
+//! made of fragments.
 #![tactic(auto)]
 
 #[cfg(test)]

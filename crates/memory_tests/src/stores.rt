@@ -6,7 +6,7 @@ use std::collections::BTreeMap;
 use std::process::Abort;
 use std::test::Fail;
 
-// Returns the octets after two pieces that overlap, or None if a call answers otherwise.
+// Returns the octets after two pieces that overlap, or None if a call gives another result.
 fn overlapped(store: &mut Retain) -> Option<[u8; 5]>
     requires { length store.old.chains ≡ 2 }
 {
@@ -22,7 +22,9 @@ fn overlapped(store: &mut Retain) -> Option<[u8; 5]>
     if store.place_counting(chain, from + 1, b"XYZW") != 2 || !store.covers(chain, from, 5) {
         return None;
     }
-    if !store.aim(chain, from + 5) || store.aim(chain, from) {
+    let past = store.look(chain, from + 5, b"a");
+    let first = store.look(chain, from, b"ab");
+    if !past.ends || past.repeats || first.ends || !first.repeats {
         return None;
     }
     let mut octets = [0; 5];

@@ -148,7 +148,7 @@ fn a_hash_is_of_the_seed_and_both_words(rt: HostRuntime) {
     // seed + 0x9e37_79b9_7f4a_7c15 modulo 2^60.
     assert_eq!(rt; hash_words(0, 1, 2), 0x1e72_feb7_5780_0c9b);
     assert_eq!(rt; hash_words(7, 1, 2), 0x057b_a6dc_4d92_d615);
-    // A seed of which the point is 1.
+    // A seed whose point is 1.
     assert_eq!(rt; hash_words(0x61c8_8646_80b5_83eb, 1, 2), 3);
     assert_eq!(rt; hash_words(7, 2, 1), 0x0050_e08c_1d46_37d2);
     assert_eq!(rt;

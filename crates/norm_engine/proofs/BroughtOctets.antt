@@ -158,7 +158,7 @@ added_later : (settings : PlainSettings) (link : Link) (era : ℕ) (Is : List Wr
 added_later settings link era Is Has item older b =
     record { newer = item ∷ b.newer; item = b.item; older = b.older; trace_is = ap (λ xs. item ∷ xs) b.trace_is; new = b.new; now = b.now; brings = b.brings }
 
--- what was added was brought
+-- each added octet was brought
 pub brought_of : (settings : PlainSettings) (link : Link) (era : ℕ) (Is : List Written → Type 0) (Has : List Written → Written → Type 0) (trace : List Item)
     → IsAdded settings link era Is Has trace → IsBrought settings link era Has trace
 brought_of settings link era Is Has trace b = record { newer = b.newer; item = b.item; older = b.older; trace_is = b.trace_is; brings = b.brings }
@@ -222,7 +222,8 @@ either_names (x ∷ xs) ys none e = by (is_clash x) refl none e (either_names xs
     by true c none e more = absurd (false≢true (sym none ∙ ap (λ b. b || names_clash xs) c))
     by false c none e more = more (sym (ap (λ b. b || names_clash xs) c) ∙ none) (sym (ap (λ b. b || names_clash (xs ++ ys)) c) ∙ e)
 
--- an entry that names a clash is of a record that no rule drops, and a rule that rewrites it is T_CLASH
+-- an entry that names a clash is of a record that no rule drops, and a rule that rewrites it is
+-- T_CLASH
 named_clash : (dropped : Option Rule) (held : Bool) (noted named : List Rule) → ((rule : Rule) → dropped ≡ Some rule → is_clash rule ≡ false) → names_clash noted ≡ false
     → names_clash (rules_by dropped held noted named) ≡ true → (dropped ≡ None) × (names_clash named ≡ true)
 named_clash (Some rule) held noted named apart none e = absurd (false≢true (sym (ap (λ b. b || false) (apart rule refl)) ∙ e))

@@ -1,4 +1,5 @@
--- What is read of a record: an unfragmented datagram, a fragment, or a fragment that completes a datagram.
+-- What is read of a record: an unfragmented datagram, a fragment, or a fragment that completes a
+-- datagram.
 use Rattle.std.proofs.Common.{◌≡◌, Bool, true, false, cond, ◌&&◌, List, ◌∷◌, ◌++◌, Option, Some, None, find, filter, refl, sym, ap, ap₂, ◌∙◌, subst, arith, append-nil, append_assoc, is_none, option_map, nat_le, []}
 use Rattle.std.specs.Option.{option_or}
 use Rattle.std.proofs.lemmas.List.Elements.{filter-append}
@@ -59,7 +60,7 @@ abbrev pub mends_of_life : PlainSettings → Option Datagram → List Rule
 mends_of_life settings None = []
 mends_of_life settings (Some d) = where_holds (i_ttl settings d) rules.ITtl
 
--- the rules that hold of a fragment which no rule drops
+-- the rules that apply to a fragment which no rule drops
 abbrev pub named_of_piece : Option Offering → List Rule
 named_of_piece None = []
 named_of_piece (Some o) = filter (fragments.holds_fragment o.view o.piece) (rules.FHeld ∷ rules.FDone ∷ [])
@@ -79,7 +80,8 @@ abbrev pub notes_of_era : PlainSettings → List Call → Option Datagram → Li
 notes_of_era settings calls None = []
 notes_of_era settings calls (Some d) = era.noted (view_of settings calls d) d
 
--- what is read of a record that carries an unfragmented datagram, which no rule on the link, the header and the protocol drops
+-- what is read of a record that carries an unfragmented datagram, which no rule on the link, the
+-- header and the protocol drops
 pub record IsCarried (settings : PlainSettings) (link : Link) (r : Packet) (d : Datagram) : Type 0 where
   pub undropped : ip_dropped_by settings link r ≡ None
   pub carried : carries_ip link r.octets ≡ true
@@ -111,7 +113,8 @@ carried_fixes settings link r d c =
     ∙ (sym (filter-append (holds_ip settings link r) piece_fix_rows (rules.ITtl ∷ []))
     ∙ ap (λ (e : Datagram). e.fixes) c.is))
 
--- what is read of a record that carries a fragment, which no rule on the link, the header and the protocol drops
+-- what is read of a record that carries a fragment, which no rule on the link, the header and the
+-- protocol drops
 pub record IsFragment (settings : PlainSettings) (link : Link) (r : Packet) (piece : Fragment) : Type 0 where
   pub undropped : ip_dropped_by settings link r ≡ None
   pub carried : carries_ip link r.octets ≡ true
@@ -253,7 +256,7 @@ pub no_pass : (b : Bool) (d : Datagram) → cond b (Some d) None ≡ None → b 
 no_pass true d h = absurd (cc)
 no_pass false d h = refl
 
--- what passes a test is a datagram of which it holds
+-- what passes a test is a datagram that satisfies it
 pub passes : (test : Datagram → Bool) (o : Option Datagram) (d : Datagram) → where_passes test o ≡ Some d → (o ≡ Some d) × (test d ≡ true)
 passes test None d h = absurd (cc)
 passes test (Some e) d h = by (test e) refl h
@@ -271,7 +274,7 @@ segment_tests settings d h = by (is_tcp d) (find (holds_tcp settings d) segment_
     by true (Some rule) h = absurd (cc)
     by false row h = absurd (cc)
 
--- no rule on UDP and ICMP holds of TCP
+-- no rule on UDP and ICMP applies to TCP
 pub no_row_on_tcp : (settings : PlainSettings) (live : Bool) (d : Datagram) → d.head.protocol ≡ 6 → (dgram_dropped_by settings live d ≡ None) × (holds_dgram settings live d rules.USumOut ≡ false)
 no_row_on_tcp settings live d six =
     let none = others_have_none settings live d (λ e. let both = sym six ∙ e in omega (arith, both)) (λ e. let both = sym six ∙ e in omega (arith, both)) in

@@ -141,7 +141,8 @@ pub pieces_stand : (settings : PlainSettings) (link : Link) (history : List Item
 pieces_stand settings link history r pieces now same =
     subst (λ n. fragments.StandsFor settings pieces (with_offered settings (fragment_in settings link r) n (reassembly.expiry n ∷ piece_calls settings link history))) same
 
--- the engine represents the history with one item more, if its connections and its fragments represent the calls with that item
+-- the engine represents the history with one item more, if its connections and its fragments
+-- represent the calls with that item
 stands_with : (old new : Engaged) (history : List Item) (r : records.Packet)
     → StandsFor old history → new.settings ≡ old.settings → new.link ≡ old.link → new.records ≡ old.records + 1 → new.latest ≡ now_with history r
     → flows.StandsFor old.settings new.norm (flow_calls old.settings old.link (item_of old.settings old.link history r ∷ history))
@@ -181,7 +182,7 @@ pub other_stands : (old new : Engaged) (history : List Item) (r : records.Packet
 other_stands old new history r none stands settings link counted latest norm pieces =
     stands_with old new history r stands settings link counted latest (subst (flows.StandsFor old.settings new.norm) (sym (plain_calls old.settings old.link history r none)) norm) pieces
 
--- the frames of a segment, of which the frame that was read is that of its record
+-- the frames of a segment; the frame that was read is that of its record
 pub as_given : (as_read : Bool) (frame octets : List ℕ) (out : List (List ℕ)) → frame ≡ octets → frames_given as_read octets out ≡ given as_read frame out
 as_given true frame octets out is = ap (λ (xs : List ℕ). xs ∷ []) (sym is)
 as_given false frame octets out is = refl

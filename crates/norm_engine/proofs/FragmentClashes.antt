@@ -1,4 +1,5 @@
--- F_CLASH is named exactly of a fragment that contradicts a held one, and a complete datagram is made of held ones.
+-- F_CLASH is named exactly of a fragment that contradicts a held one, and a complete datagram is
+-- made of held ones.
 use Rattle.std.proofs.Common.{◌≡◌, ◌≢◌, ◌↔◌, ◌+◌, ◌&&◌, ◌||◌, Bool, true, false, cond, List, [], ◌∷◌, ◌++◌, filter, Option, Some, None, refl, sym, ap, subst, ◌∙◌, find, option_map}
 use Rattle.std.specs.Option.{option_or}
 use Rattle.std.proofs.lemmas.Bool.{false≢true}

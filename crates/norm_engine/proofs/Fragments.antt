@@ -1,4 +1,5 @@
--- A fragment of a record: which rule drops it, whether it is held, and its judgment by the answer to it.
+-- A fragment of a record: which rule drops it, whether it is held, and its judgment by the answer
+-- to it.
 use Rattle.std.proofs.Common.{◌≡◌, ℕ, ◌-◌, ◌≤◌, ◌<◌, Bool, true, false, cond, ◌&&◌, nat_le, List, ◌∷◌, ◌++◌, length, take, Option, Some, None, refl, sym, ap, ap₂, ◌∙◌, subst, arith, length-take, option_map, is_none, []}
 use Rattle.std.specs.Option.{option_or}
 use Rattle.wire_base.specs.declared.address.Link.{Link}

@@ -1,4 +1,5 @@
--- A frame and the packet in it: their sizes, the kind of the frame, and the packet's header and payload.
+-- A frame and the packet in it: their sizes, the kind of the frame, and the packet's header and
+-- payload.
 use Rattle.std.proofs.Common.{◌≡◌, ℕ, ◌-◌, ◌≤◌, ◌<◌, Bool, true, false, cond, ◌&&◌, ◌||◌, ◌==◌, nat_lt, min, List, ◌++◌, length, take, drop, Option, refl, sym, ap, ◌∙◌, subst, arith, inr, append_assoc, not, Some, None, nat_le, length-drop, length-take, take-append-drop, length-append, [], ◌∷◌, inl}
 use Rattle.std.specs.List.{AllByRecursion}
 use Rattle.std.proofs.Math.Seq.{take-length}
@@ -26,7 +27,8 @@ use Rattle.ip_rules.proofs.Datagrams.{packet_octets}
 use Rattle.norm_engine.specs.Outgoing.{IsWholePacket, CarriesWhole, GoesOut}
 use Rattle.norm_engine.proofs.Links.{split_frame, frame_few, link_few, packet_behind, long_behind, carries_behind, kind_ip, arp_kind}
 
--- The packet of a record that no rule drops: its header and payload fit its frame, and few rules rewrite it.
+-- The packet of a record that no rule drops: its header and payload fit its frame, and few rules
+-- rewrite it.
 
 -- rules that do not hold
 
@@ -69,7 +71,8 @@ payload_fits p s small =
     let least = s.least in
     omega (arith, size, least)
 
--- a packet with no octets after its total length is its header and its payload, and its frame is short
+-- a packet with no octets after its total length is its header and its payload, and its frame is
+-- short
 
 no_trailer : (settings : PlainSettings) (link : Link) (r : Record) → IsKept settings link r → ip_fixes settings link r whole_fix_rows ≡ [] → ip.has_trailer (packet_in link r.octets) ≡ false
 unfolding ip_fixes

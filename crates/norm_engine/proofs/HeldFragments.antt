@@ -1,4 +1,5 @@
--- Each fragment that is held was brought by a record that was held, and those of one datagram agree.
+-- Each fragment that is held was brought by a record that was held, and those of one datagram
+-- agree.
 use Rattle.std.proofs.Common.{◌≡◌, ◌≢◌, ℕ, zero, suc, ◌+◌, ◌-◌, ◌<◌, ◌≤◌, ◌==◌, ◌||◌, not, nat_lt, Bool, true, false, cond, List, [], ◌∷◌, length, Contains, Option, Some, None, is_some, refl, sym, ap, ap₂, subst, ◌∙◌, arith, slice_get, slice_index, eq-eqb, option_map}
 use Rattle.std.specs.List.{AllByRecursion}
 use Rattle.std.specs.Option.{option_or, unwrap_or}
@@ -92,7 +93,7 @@ index_of from xs offset own has = by (nat_lt offset from) refl has
         let is : Some (slice_index xs (offset - from)) ≡ Some own = sym (slice_get-get_or xs (offset - from) 0 lt) ∙ h in
         (least, lt, cc)
 
--- octets of which one differs from what is held clash
+-- octets clash if one of them differs from what is held
 pub clash_of : (ps : List Fragment) (from : ℕ) (xs : List ℕ) (offset octet own : ℕ) → octet_of ps offset ≡ Some octet → octet_in from xs offset ≡ Some own → octet ≢ own
     → clashes ps from xs ≡ true
 clash_of ps from xs offset octet own was has differ = by (clashes ps from xs) refl

@@ -1,4 +1,5 @@
--- An item's entry: its count of frames, at most so many rules, no T_ROOM if there are cells for all.
+-- An item's entry: its count of frames, at most this number of rules, no T_ROOM if there are cells
+-- for all.
 use Rattle.std.proofs.Common.{◌≡◌, ◌+◌, ◌≤◌, ◌==◌, ◌&&◌, ◌||◌, not, Bool, true, false, cond, List, [], ◌∷◌, ◌++◌, length, filter, Option, Some, None, refl, sym, ap, subst, ◌∙◌, arith, append_assoc, ℕ, ◌≢◌, ◌*◌, find, option_map}
 use Rattle.std.proofs.lemmas.List.{length-append, length-map}
 use Rattle.std.specs.List.{AllByRecursion, list_any}
@@ -130,7 +131,8 @@ rules_are_few rows settings link history r = by (segment_after settings link his
         subst (λ xs. length xs ≤ 14) (sym (segment_rules settings link read r d (rows settings link history r d h)))
         (outcome_few settings v d (fixes_few settings link read r d (made_of settings link past r d here.0)) (era.dropped_by settings v d))
 
--- An entry counts the frames of its item, of which there are at most two, and reports each era that ended with its octets.
+-- An entry counts the frames of its item, of which there are at most two, and reports each era that
+-- ended with its octets.
 
 one_probe : (settings : PlainSettings) (d : Datagram) (probe : Option Probe) → length (probe_packets settings d probe) ≤ 1
 one_probe settings d None = omega arith

@@ -1,4 +1,5 @@
--- The frames of an item: ARP or unfragmented packets, none too long, those inwards plain and read alike.
+-- The frames of an item: ARP or unfragmented packets, none too long, those inwards plain and read
+-- alike.
 use Rattle.std.proofs.Common.{◌≡◌, ℕ, ◌≤◌, ◌==◌, ◌&&◌, ◌||◌, not, Bool, true, false, cond, List, ◌∷◌, ◌++◌, length, take, drop, find, Option, Some, None, is_none, inl, inr, refl, sym, ap, subst, ◌∙◌, arith, option_map, length-append, length-take, length-drop, []}
 use Rattle.std.specs.List.{AllByRecursion}
 use Rattle.std.specs.Option.{option_or}
@@ -53,7 +54,8 @@ use Rattle.norm_engine.proofs.Frames.{whole_frame, behind_frames, frames_go, go_
 use Rattle.norm_engine.proofs.Traces.{RowsAreOfEras, both_of, datagram_known, link_kept, long_enough, segment_is, rows_are_of_eras}
 use Rattle.norm_engine.proofs.SegmentPackets.{SegmentLaws, behind_first, faultless, wholes}
 
--- What is written for a record: ARP, or unfragmented packets, with at most a probe after the first; and the number of rules in its entry.
+-- What is written for a record: ARP, or unfragmented packets, with at most a probe after the first;
+-- and the number of rules in its entry.
 
 -- ---- a datagram that is not a segment
 
@@ -271,7 +273,7 @@ module _ (known : DatagramsAreKnown) (settings : PlainSettings) (link : Link) (h
   abbrev frame_named : Option Datagram → List Rule → List ℕ
   frame_named made named = frame_by settings (link_octets link r.octets) r.octets made named
 
-  -- a rule none_before that on its type drops none that is written
+  -- a rule before that on its type drops none that is written
   typed : (made : Option Datagram) → read_here.datagram ≡ made → dropped_by settings link read_here r ≡ None → l_type link r.octets ≡ false
   typed None m undropped = type_kept settings link r (first_not (ip_dropped_by settings link r) _ (sym (bare_row settings link past_here r m) ∙ undropped))
   typed (Some d) m undropped = type_kept settings link r (made_of settings link past_here r d m).undropped
@@ -357,7 +359,7 @@ lawful_plain_inwards known certain settings link (item ∷ older) sound = (
   lawful_plain_inwards known certain settings link older (none_before settings link item older sound),
 )
 
--- ---- what is plain is read_here alike
+-- ---- plain packets are read alike
 
 frames_alike : receivers.PlainIsReadAlike → (hops : ℕ) (link : Link) (frames : List (List ℕ)) → AllByRecursion (λ frame. Plain hops (packet_in link frame)) frames
     → AllByRecursion (λ frame. receivers.IsReadAlike hops (packet_in link frame)) frames

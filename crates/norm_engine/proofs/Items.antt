@@ -1,4 +1,5 @@
--- The item of a record as it was judged: its frames, verdict, rules and calls, and what is read back of it.
+-- The item of a record as it was judged: its frames, verdict, rules and calls, and what is read
+-- back of it.
 use Rattle.std.proofs.Common.{◌≡◌, ℕ, Bool, true, false, cond, ◌&&◌, not, List, [], ◌∷◌, ◌++◌, length, take, map, filter, Option, Some, None, refl, sym, ap, ap₂, ◌∙◌, find, subst, option_map}
 use Rattle.std.specs.List.{AllByRecursion, list_all}
 use Rattle.std.proofs.lemmas.List.{append_assoc, append-nil, length-map}
@@ -215,7 +216,8 @@ pub plain_frames : (settings : PlainSettings) (link : Link) (read : Read) (r : r
     → emits settings link read r ≡ frames_by (dropped_by settings link read r) (is_held read) (frame_by settings (link_octets link r.octets) r.octets read.datagram (named_rows settings link read r))
 plain_frames settings link read r none = ap (frames_with settings link read r) none
 
--- the entry of a record that is not a segment, by its rule, whether it is held, and the rules that rewrite it
+-- the entry of a record that is not a segment, by its rule, whether it is held, and the rules that
+-- rewrite it
 plain_entry : (settings : PlainSettings) (link : Link) (read : Read) (r : records.Packet) (number : ℕ) (dropped : Option Rule) (held : Bool) (named : List Rule) (side : Option Side)
     → read.segment ≡ None → dropped_by settings link read r ≡ dropped → is_held read ≡ held → named_rows settings link read r ≡ named → side_by dropped (side_of_record settings link r) ≡ side
     → (item_by settings link read r number).entry

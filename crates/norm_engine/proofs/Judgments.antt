@@ -1,4 +1,5 @@
--- The judgment of a record follows its rules: one without IPv4, one that is dropped, one with a datagram.
+-- The judgment of a record follows its rules: one without IPv4, one that is dropped, one with a
+-- datagram.
 use Rattle.std.proofs.Common.{◌≡◌, ℕ, ◌-◌, ◌*◌, ◌%◌, ◌≤◌, ◌<◌, Bool, true, false, cond, ◌&&◌, ◌||◌, ◌==◌, not, nat_lt, nat_le, List, ◌∷◌, ◌++◌, length, Option, Some, None, find, filter, refl, sym, ap, ◌∙◌, subst, arith, option_map, is_none, append-nil, length-append, []}
 use Rattle.std.specs.Option.{option_or}
 use Rattle.std.proofs.lemmas.Bool.{and_parts, eqb-true, ltb-false}
@@ -36,7 +37,8 @@ use Rattle.norm_engine.proofs.Layers.{bare_row, bare_named, datagram_row_is, dat
 use Rattle.norm_engine.proofs.Frames.{carried_fails, few_fixes, kept_packet, payload_fits, short_frame, whole_frame, arp_short}
 use Rattle.norm_engine.specs.Judged as judged
 
--- no datagram and no fragment is read of a record that a rule drops; an unfragmented datagram and a fragment exclude each other
+-- no datagram and no fragment is read of a record that a rule drops; an unfragmented datagram and a
+-- fragment exclude each other
 
 abbrev datagram_if : PlainSettings → Link → Record → (row : Option Rule) (carried piece : Bool) → Option Datagram
 datagram_if settings link r row carried piece =

@@ -41,7 +41,7 @@ use Rattle.norm_engine.proofs.Datagrams.{IsMade, made_of, mends_of_datagram, men
 drop_layers : drop_rows ≡ ip_drop_rows ++ fragment_rows ++ datagram_rows ++ segment_rows ++ era_rows
 drop_layers = refl
 
--- no rule on connections that drops holds of an outbound segment
+-- no rule on connections that drops applies to an outbound segment
 outward_by : (settings : PlainSettings) (v : View) (live : Option ℕ) (head : Ipv4) (header octets : List ℕ) (fixes : List Rule)
     → let d : Datagram = record { side = Outward; head = head; header = header; octets = octets; fixes = fixes } in
     find (λ rule. era.holds_era settings (record v { era = live }) d rule) (rules.TCold ∷ rules.TState ∷ rules.TSyn ∷ rules.TRst ∷ rules.TQuota ∷ rules.TRoom ∷ []) ≡ None
@@ -239,7 +239,7 @@ module _ (settings : PlainSettings) (link : Link) (past : Past) (r : Packet) whe
 
 -- The judgment of a datagram by its protocol, and the rules on the header of its segment.
 
--- the rules on the header hold of TCP alone
+-- the rules on the header apply to TCP alone
 
 pub header_row : (settings : PlainSettings) (d : Datagram) → is_tcp d ≡ true → find (holds_tcp settings d) segment_rows ≡ segment_row settings d
 header_row settings d six = ap (λ b. find (λ rule. b && holds_header settings d rule) segment_rows) six

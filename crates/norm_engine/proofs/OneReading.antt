@@ -1,4 +1,5 @@
--- What is written for a record is read in one way: segments with whole headers, plain packets inwards.
+-- What is written for a record is read in one way: segments with whole headers, plain packets
+-- inwards.
 use Rattle.std.proofs.Common.{◌≡◌, ℕ, ◌≤◌, Bool, cond, ◌&&◌, ◌==◌, List, ◌++◌, length, find, Option, Some, refl, sym, ap, ◌∙◌, subst, arith, append_assoc, IsSome, is_none, is_some, option_map, true, false, [], ◌∷◌, None}
 use Rattle.std.specs.List.{AllByRecursion}
 use Rattle.wire_base.specs.declared.address.Link.{Link}

@@ -126,7 +126,8 @@ clean_parts None false h = (refl, refl)
 clean_parts None true h = absurd (cc)
 clean_parts (Some rule) touched h = absurd (cc)
 
--- a record that no rule drops and for which no rule that touches a payload holds carries no fragment
+-- a record that no rule drops and for which no rule that touches a payload holds carries no
+-- fragment
 
 any_parts : (xs ys : List Rule) → list_any touches_payload (xs ++ ys) ≡ false → (list_any touches_payload xs ≡ false) × (list_any touches_payload ys ≡ false)
 any_parts [] ys h = (refl, h)

@@ -87,7 +87,8 @@ plain_wholes : (hops : ℕ) (packets : List Packet) → AllByRecursion (λ p. Pl
 plain_wholes hops [] plain = All-nil (λ p. Plain hops p)
 plain_wholes hops (p ∷ ps) plain = All-cons (λ p. Plain hops p) (whole p) (map whole ps) plain.0 (plain_wholes hops ps plain.1)
 
--- What was sent in an era is what its calls wrote: the same segments, plain inwards, and beside them packets without octets, SYN and FIN.
+-- What was sent in an era is what its calls wrote: the same segments, plain inwards, and
+-- probes without octets, SYN and FIN.
 record IsAsCalled (hops era : ℕ) (sent : List Sent) (cs : List Call) : Type 0 where
   written : written_in era sent ≡ segments era cs
   plain : All (λ p. Plain hops p) (inward_packets era sent)
@@ -254,7 +255,8 @@ misses miss emitted settings link (item ∷ older) sound = (
 pub near_acks : EmittedStaysNearAcks → LawfulIsEmitted → LawfulStaysNearAcks
 near_acks stay emitted settings link trace sound era base based = stay settings.hops era base (sent_in link trace) (emitted settings link trace sound era) based
 
--- What waits in a receiver is what norm keeps of the era: at most 256 octets for each block that it holds.
+-- What waits in a receiver is what norm keeps of the era: at most 256 octets for each block that it
+-- holds.
 
 -- ---- each octet
 
@@ -305,7 +307,7 @@ count_below p q a (suc n) passes =
     here true true goes = omega arith
     here true false goes = let e = goes refl in absurd (cc)
 
--- a count in two parts, of which each is at most 256 for each block that is held there
+-- a count in two parts, each at most 256 for each block that is held there
 join_blocks : (whole first rest here held total : ℕ) → whole ≡ first + rest → total ≡ here + held → first ≤ 256 * here → rest ≤ 256 * held → whole ≤ 256 * total
 join_blocks whole first rest here held total parted summed low high = omega (arith, parted, summed, low, high)
 

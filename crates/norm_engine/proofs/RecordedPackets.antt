@@ -1,4 +1,5 @@
--- Records that pass are written as they were recorded, so receivers of the written packets are receivers of the recorded ones.
+-- Records that pass are written as they were recorded, so receivers of the written packets are
+-- receivers of the recorded ones.
 use Rattle.std.proofs.Common.{◌≡◌, ◌≢◌, ℕ, ◌&&◌, ◌||◌, not, Bool, true, false, cond, List, [], ◌∷◌, ◌++◌, map, Option, Some, None, inl, inr, ◌⊎◌, is_none, eqb-true, refl, sym, ap, ap₂, subst, ◌∙◌}
 use Rattle.std.specs.List.{AllByRecursion, list_any}
 use Rattle.wire_base.specs.declared.address.Link.{Link}
@@ -180,7 +181,7 @@ packets_same l settings link concerns era (item ∷ older) sound pass all =
     ap₂ (λ a b. a ++ b) (packets_same l settings link concerns era older (before settings link item older sound) pass.1 all.1)
     (same_packets settings link era item (λ named. known l settings link item older sound (λ inwards. pass.0 (all.0 named inwards) inwards)))
 
--- what holds at each history holds of the trace
+-- what holds at each history holds for the trace
 at_last : (P : List Item → Type 0) (trace : List Item) → AtEachHistory P trace → P trace
 at_last P [] all = all
 at_last P (item ∷ older) all = all.1
@@ -201,7 +202,7 @@ was_read_so l settings link concerns era trace sound pass all =
           (at_last (MissesNothing settings.hops link) trace (l.monitor settings link trace sound) era base based);
     }
 
--- what holds of each sound trace holds of each history of one
+-- what holds for each sound trace holds for each history of one
 at_each : (settings : PlainSettings) (link : Link) (P : List Item → Type 0) → ((history : List Item) → IsSound settings link history → P history)
     → (trace : List Item) → IsSound settings link trace → AtEachHistory P trace
 at_each settings link P make [] sound = make [] sound

@@ -1,4 +1,5 @@
--- Packets written for a segment: whole headers, no fault but the checksum, at most one probe behind.
+-- Packets written for a segment: whole headers, no fault but the checksum, and at most one probe at
+-- the end.
 use Rattle.std.proofs.Common.{◌≡◌, ℕ, ◌+◌, ◌*◌, ◌/◌, ◌≤◌, Bool, true, false, cond, List, ◌∷◌, ◌++◌, length, take, drop, get_or, find, Option, None, refl, sym, ap, ◌∙◌, subst, arith, slice_index, append_assoc, length-take-le, get_or-take, length-append, [], Some}
 use Rattle.std.specs.List.{AllByRecursion}
 use Rattle.std.proofs.Math.ListN.{get_or-append}
@@ -155,11 +156,13 @@ whole_segments mends settings v d s known false goes =
     subst (AllByRecursion (λ p. IsWholeSegment (p.header ++ p.octets))) (sym packets)
     (whole_packet settings d (packet_by settings v.segments d d.fixes (mended_by settings v d)) own s.protocol (headed_own mends settings v.segments d s goes d.fixes (mended_by settings v d)), tt)
 
--- The packets that are written for a segment have no fault but in the checksum; behind the first there is at most a probe.
+-- The packets that are written for a segment have no fault but in the checksum; after the first
+-- there is at most a probe.
 
 -- ---- the packets of a segment
 
--- a segment that is plain, that was read, or that is one of these with its checksum corrected, has no fault except its checksum
+-- a segment that is plain, that was read, or that is one of these with its checksum corrected, has
+-- no fault except its checksum
 plain_faultless : (d : Datagram) (m : List ℕ) → IsPlainSegment d m → fault_of Skip 0 m ≡ None
 plain_faultless d m s = fault_of-options Skip 0 m true s.whole_header s.data_offset s.inside refl s.flags s.options
 

@@ -1,4 +1,5 @@
--- A lawful trace: its calls are those that the rules make, its datagrams are known, and records have one.
+-- A lawful trace: its calls are those that the rules make, its datagrams are known, and records
+-- have one.
 use Rattle.std.proofs.Common.{◌≡◌, ℕ, ◌≤◌, Bool, true, false, cond, ◌&&◌, ◌||◌, not, nat_lt, List, [], ◌∷◌, length, take, Option, Some, None, refl, sym, ap, subst, ◌∙◌, arith, ◌+◌, ap₂, eqb-true, option_map}
 use Rattle.std.proofs.lemmas.Bool.Decides.{nat_tests}
 use Rattle.std.specs.List.{AllByRecursion}

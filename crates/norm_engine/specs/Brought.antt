@@ -1,4 +1,5 @@
--- Which records brought the octets of an era's stream, and which of them contradict it (this project's profile).
+-- Which records brought the octets of an era's stream, and which of them contradict it (this
+-- project's profile).
 use Rattle.std.specs.Prelude.{◌≡◌, ◌≢◌, ◌↔◌, ℕ, Bool, true, false, List, [], ◌∷◌, ◌++◌, ℤ, pos, ◌≤ℤ◌, Some}
 use Rattle.std.specs.List.{AllByRecursion, list_any}
 use Rattle.wire_base.specs.declared.address.Link.{Link}
@@ -17,9 +18,11 @@ use Rattle.norm_engine.specs.Calls.{segment_after}
 use Rattle.norm_engine.specs.Agreement.{sent_in}
 use Rattle.norm_engine.specs.Laws.{IsSound}
 
--- A record brings this to an era after a history: it went inwards, was written in the era, and the segment of its datagram has it after what was written before.
--- The datagram is the one that the record carries, or the one that its fragment completes, with octets of held fragments too. `Has` is `HasAt` of an octet at an
--- offset, or `EndsAt` of the end. Octets that norm cuts away count as well, below Acked or past the window or the end; those of a SYN or RST do not.
+-- A record brings this to an era after a history: it went inwards, was written in the era, and the
+-- segment of its datagram has it after what was written before. The datagram is the one that the
+-- record carries, or the one that its fragment completes, which also has octets of held fragments.
+-- `Has` is `HasAt` of an octet at an offset, or `EndsAt` of the end. Octets that norm cuts away
+-- count as well, below Acked or past the window or the end; those of a SYN or RST do not.
 pub record Brings (settings : PlainSettings) (link : Link) (era : ℕ) (Has : List Written → Written → Type 0) (item : Item) (older : List Item) : Type 0 where
   pub inward : item.entry.side ≡ Some Inward
   pub named : item.entry.era ≡ Some era
@@ -36,7 +39,8 @@ pub record IsBrought (settings : PlainSettings) (link : Link) (era : ℕ) (Has :
   pub trace_is : trace ≡ newer ++ (item ∷ older)
   pub brings : Brings settings link era Has item older
 
--- A record of this trace brought this to the era, after the records before it, and added it: it was not there before the record, and it is there after it.
+-- A record of this trace brought this to the era, after the records before it, and added it: the
+-- era did not have it before the record, and has it after the record.
 pub record IsAdded (settings : PlainSettings) (link : Link) (era : ℕ) (Is : List Written → Type 0) (Has : List Written → Written → Type 0) (trace : List Item) : Type 0 where
   pub newer : List Item
   pub item : Item
@@ -62,7 +66,8 @@ pub record AreBrought (settings : PlainSettings) (link : Link) (era base : ℕ) 
       → OctetIsAdded settings link era base offset octet trace
   pub end : (offset : ℤ) → end_of base (written_in era (sent_in link trace)) ≡ Some offset → EndIsAdded settings link era base offset trace
 
--- Nothing is invented: this holds of each era of the trace whose base is fixed. It is said of octets and ends of streams, not of SYN, RST, probes or UDP.
+-- Nothing is invented: this holds for each era of the trace whose base is fixed. It is said of
+-- octets and ends of streams, not of SYN, RST, probes or UDP.
 abbrev pub InventsNothing : PlainSettings → Link → List Item → Type 0
 InventsNothing settings link trace =
     (era base : ℕ) → base_of (written_in era (sent_in link trace)) ≡ Some base → AreBrought settings link era base trace
@@ -79,8 +84,9 @@ is_clash _ = false
 abbrev pub names_clash : List Rule → Bool
 names_clash named = list_any is_clash named
 
--- A record contradicts the stream of an era: it is written in the era, has neither SYN nor RST, and brings, at an offset at or past Acked, another octet than the
--- one written first there. That one was brought by the earlier record that added it.
+-- A record contradicts the stream of an era. It is written in the era, has neither SYN nor RST, and
+-- brings, at an offset at or past Acked, an octet that differs from the one written first there.
+-- That one was brought by the earlier record that added it.
 pub record Contradicts (settings : PlainSettings) (link : Link) (item : Item) (older : List Item) : Type 0 where
   pub era : ℕ
   pub base : ℕ
@@ -93,7 +99,8 @@ pub record Contradicts (settings : PlainSettings) (link : Link) (item : Item) (o
   pub brings : Brings settings link era (HasAt base offset other) item older
   pub differ : octet ≢ other
 
--- T_CLASH is exact: each entry of the trace names it exactly if its record contradicts the stream of an era.
+-- T_CLASH is exact: each entry of the trace names it exactly if its record contradicts the stream
+-- of an era.
 abbrev pub NamesEachClash : PlainSettings → Link → List Item → Type 0
 NamesEachClash settings link [] = Unit {0}
 NamesEachClash settings link (item ∷ older) =
@@ -102,8 +109,9 @@ NamesEachClash settings link (item ∷ older) =
 abbrev pub LawfulClashesAreReal : Type 0
 LawfulClashesAreReal = (settings : PlainSettings) (link : Link) (trace : List Item) → IsSound settings link trace → NamesEachClash settings link trace
 
--- No record of the era differs from an earlier one: where an earlier record brought an octet, at or past Acked, a record brings the same one or none. Nothing is
--- asked of octets below Acked, such as those of keep-alive segments.
+-- No record of the era differs from an earlier one: where an earlier record brought an octet, at or
+-- past Acked, a record brings the same one or none. The condition does not cover octets below
+-- Acked, such as those of keep-alive segments.
 abbrev pub IsConsistent : PlainSettings → Link → (era : ℕ) → List Item → Type 0
 IsConsistent settings link era [] = Unit {0}
 IsConsistent settings link era (item ∷ older) =
@@ -111,7 +119,8 @@ IsConsistent settings link era (item ∷ older) =
     × ((base : ℕ) (offset : ℤ) (octet other : ℕ) → IsBrought settings link era (HasAt base offset octet) older
     → pos (acked base (written_in era (sent_in link older))) ≤ℤ offset → Brings settings link era (HasAt base offset other) item older → octet ≡ other)
 
--- In an era in which no record differs from an earlier one at an offset at or past Acked, no entry names T_CLASH.
+-- In an era in which no record differs from an earlier one at an offset at or past Acked, no entry
+-- names T_CLASH.
 abbrev pub ConsistentIsWithoutClash : Type 0
 ConsistentIsWithoutClash =
     (settings : PlainSettings) (link : Link) (trace : List Item) → IsSound settings link trace

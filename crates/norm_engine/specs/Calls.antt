@@ -1,5 +1,7 @@
--- The calls of the connection state that a history makes (this project's profile): for each record first the eras that are idle by its time, then its datagram,
--- if that is a segment which no rule before those of eras drops. Lists of calls have the newest at the head, as the history has.
+-- The calls of the connection state that a history makes (this project's profile). For each record
+-- these are first the eras that are idle by its time, then its datagram, if that is a segment which
+-- no rule before those of eras drops. Lists of calls have the newest at the head, as the history
+-- has.
 use Rattle.std.specs.Prelude.{ℕ, not, Bool, true, false, List, [], ◌∷◌, map, filter, Option, Some, None, if◌then◌else◌}
 use Rattle.std.specs.Option.{option_or}
 use Rattle.wire_base.specs.declared.address.Link.{Link}
@@ -25,7 +27,8 @@ abbrev pub where_passes : {A : Type 0} → (A → Bool) → Option A → Option 
 where_passes test None = None
 where_passes test (Some x) = if test x then Some x else None
 
--- the datagram of a record after these calls of reassembly: the one that it carries unfragmented, or the one that its fragment completes
+-- the datagram of a record after these calls of reassembly: the one that it carries unfragmented,
+-- or the one that its fragment completes
 abbrev pub datagram_by : PlainSettings → Link → (pieces : List reassembly.Call) → records.Packet → Option Datagram
 datagram_by settings link pieces r = option_or (datagram_in settings link r) (joined_in settings link r (offering_in settings link pieces r))
 
@@ -49,7 +52,8 @@ is_idleness _ = false
 abbrev pub is_idle : Ended → Bool
 is_idle ended = is_idleness ended.reason
 
--- the outcome of an item's datagram: the values of its entry, without the eras that ended because they were idle, and the packets of its frames
+-- the outcome of an item's datagram: the values of its entry, without the eras that ended because
+-- they were idle, and the packets of its frames
 abbrev pub outcome_in : Link → Item → Outcome
 outcome_in link item =
     record {
@@ -77,8 +81,9 @@ flow_calls settings link (item ∷ older) =
     with_asked (segment_after settings link older item.packet) (now_with older item.packet) (outcome_in link item)
     (expiry_in older item ∷ flow_calls settings link older)
 
--- What the rules read of a history before a record: the eras that are idle by the record's time, as they end; the calls of connections including their expiry;
--- and those of reassembly, including the removal of old datagrams.
+-- What the rules read of a history before a record: the eras that are idle by the record's time, as
+-- they end, and the calls of connections, including their expiry. Also the calls of reassembly,
+-- including the removal of old datagrams.
 pub record Past : Type 0 where
   pub idle : List Ended
   pub calls : List Call

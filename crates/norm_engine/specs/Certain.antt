@@ -27,21 +27,24 @@ pub record IsWholeSegment (p : List ℕ) : Type 0 where
   pub legal : tcp.are_legal (tcp.flags (ip.payload p)) ≡ true
   pub formed : are_well_formed (tcp.options (ip.payload p)) ≡ true
 
--- Each packet written inwards is plain; each packet of an era is a segment; an item of an era has a side; and each outward item of an era was written.
+-- Each packet written inwards is plain; each packet of an era is a segment; an item of an era has a
+-- side; and each outward item of an era was written.
 pub record IsCertain (hops : ℕ) (link : Link) (item : Item) : Type 0 where
   pub plain : item.entry.side ≡ Some Inward → AllByRecursion (λ frame. Plain hops (packet_in link frame)) item.frames
   pub segments : IsSome item.entry.era → AllByRecursion (λ frame. IsWholeSegment (packet_in link frame)) item.frames
   pub sided : IsSome item.entry.era → IsSome item.entry.side
   pub written : item.entry.side ≡ Some Outward → IsSome item.entry.era → is_written item.entry.verdict ≡ true
 
--- this holds of each item of a record of octets, after others of octets, with at most 254 routers behind the bridge
+-- this holds for each item of a record of octets, after others of octets, with at most 254 routers
+-- behind the bridge
 abbrev pub ItemsAreCertain : Type 0
 ItemsAreCertain =
     (settings : PlainSettings) (link : Link) (history : List Item) (r : Packet) → settings.hops ≤ 254 → HaveOctets history → HasOctets r
     → IsCertain settings.hops link (item_of settings link history r)
 
--- In each era of a lawful trace the segments written are emitted, each after those before it, packets sent inwards are plain, and those beside the segments
--- have no octet, SYN or FIN.
+-- In each era of a lawful trace the segments written are emitted, each after those before it,
+-- packets sent inwards are plain, and those other than its segments (probes) have no octet, SYN or
+-- FIN.
 abbrev pub LawfulIsEmitted : Type 0
 LawfulIsEmitted =
     (settings : PlainSettings) (link : Link) (trace : List Item) → IsSound settings link trace → (era : ℕ) → IsEmittedEra settings.hops era (sent_in link trace)

@@ -19,7 +19,8 @@ is_clean settings link history r =
     let read = read_after settings link history r in
     is_none (dropped_by settings link read r) && not (list_any touches_payload (named_rows settings link read r))
 
--- the payload of a packet: the octets after the TCP or the UDP header, or the entire message of another protocol
+-- the payload of a packet: the octets after the TCP or the UDP header, or the entire message of
+-- another protocol
 abbrev pub payload_of : (packet : List ℕ) → List ℕ
 payload_of p =
     if ip.protocol p == 6 then tcp.payload (ip.payload p) else if ip.protocol p == 17 then drop 8 (ip.payload p) else ip.payload p
@@ -28,7 +29,8 @@ payload_of p =
 abbrev pub payload_in : Link → (frame : List ℕ) → List ℕ
 payload_in link frame = if carries_ip link frame then payload_of (packet_in link frame) else frame
 
--- the item has exactly one frame, with its record's payload, and identical to its record if the verdict is pass
+-- the item has exactly one frame, with its record's payload, and identical to its record if the
+-- verdict is pass
 pub record KeepsPayload (link : Link) (item : Item) : Type 0 where
   pub frame : List ℕ
   pub only : item.frames ≡ frame ∷ []

@@ -52,8 +52,8 @@ use Rattle.norm_engine.specs.Calls.{Past, flow_calls, where_passes, datagram_by}
 use Rattle.norm_engine.specs.Trace.{Read, is_held, is_quoted_live, dropped_by, noted_rows, named_rows}
 use Rattle.wire_base.specs.declared.limits.TheConstants.{MAX_FRAME, MAX_PAYLOAD}
 
--- an engine as contracts see it: its settings, its link type, the number of records so far, the greatest time of them in seconds, its connections, and the
--- datagrams with held fragments
+-- an engine as contracts see it: its settings, its link type, the number of records so far, the
+-- greatest time of them in seconds, its connections, and the datagrams with held fragments
 pub record Engaged : Type 0 where
   pub settings : PlainSettings
   pub link : Link
@@ -62,15 +62,16 @@ pub record Engaged : Type 0 where
   pub norm : TcpNorm
   pub pieces : Assembly
 
--- The engine represents the history: it has counted its items, holds the greatest time of their records, and its connections and its fragments represent the
--- calls that the history makes.
+-- The engine represents the history: it has counted its items, holds the greatest time of their
+-- records, and its connections and its fragments represent the calls that the history makes.
 pub record StandsFor (engine : Engaged) (history : List Item) : Type 0 where
   pub counted : engine.records ≡ length history
   pub latest : engine.latest ≡ now_at history
   pub flows : flows.StandsFor engine.settings engine.norm (flow_calls engine.settings engine.link history)
   pub pieces : fragments.StandsFor engine.settings engine.pieces (piece_calls engine.settings engine.link history)
 
--- connections represent some calls, with at most `records` datagrams among them, and fragments represent others, none of them later than `latest`
+-- connections represent some calls, with at most `records` datagrams among them, and fragments
+-- represent others, none of them later than `latest`
 pub record Kept (settings : PlainSettings) (norm : TcpNorm) (pieces : Assembly) (records latest : ℕ) : Type 0 where
   pub calls : List Call
   pub stands : flows.StandsFor settings norm calls
@@ -150,14 +151,16 @@ pub record IsDropped (settings : PlainSettings) (link : Link) (read : Read) (r :
   pub dropped : dropped_by settings link read r ≡ Some rule
   pub side : told ≡ (if tells_side rule then side_of_record settings link r else None)
 
--- a record that is a fragment to this side which no rule drops, and which does not complete its datagram
+-- a record that is a fragment to this side which no rule drops, and which does not complete its
+-- datagram
 pub record IsHeldBack (settings : PlainSettings) (link : Link) (read : Read) (r : Packet) (side : Side) : Type 0 where
   pub segment : read.segment ≡ None
   pub undropped : dropped_by settings link read r ≡ None
   pub held : is_held read ≡ true
   pub told : side_of_record settings link r ≡ Some side
 
--- a record whose datagram is written and is not a segment: no rule drops it, the rules that rewrite it are named, and the packet is the one in its frame
+-- a record whose datagram is written and is not a segment: no rule drops it, the rules that rewrite
+-- it are named, and the packet is the one in its frame
 pub record IsSent (settings : PlainSettings) (link : Link) (read : Read) (r : Packet) (packet : IpPacket) (mend : Bool) : Type 0 where
   pub own : Datagram
   pub datagram : read.datagram ≡ Some own
@@ -175,7 +178,8 @@ pub record IsSent (settings : PlainSettings) (link : Link) (read : Read) (r : Pa
   pub fits : length packet.payload.now ≤ MAX_PAYLOAD
   pub short : packet.fixes.items ≡ [] → length packet.frame.now ≤ MAX_FRAME
 
--- a record whose datagram is a segment that no rule before those of eras drops: the rules that drop, note and rewrite it are those of its connection
+-- a record whose datagram is a segment that no rule before those of eras drops: the rules that
+-- drop, note and rewrite it are those of its connection
 pub record IsTaken (settings : PlainSettings) (link : Link) (read : Read) (r : Packet) (packet : IpPacket) (head : Tcp) : Type 0 where
   pub own : Datagram
   pub segment : read.segment ≡ Some own
@@ -210,7 +214,8 @@ read_with settings link past r =
       past = past;
     }
 
--- the packet of a complete datagram: that of the fragment which completed it, with the datagram's header and octets, and the rules that rewrite it
+-- the packet of a complete datagram: that of the fragment which completed it, with the datagram's
+-- header and octets, and the rules that rewrite it
 pub record IsMadeWhole (hops : ℕ) (packet : IpPacket) (whole : Whole) (octets : List ℕ) (made : IpPacket) : Type 0 where
   pub side : made.side ≡ packet.side
   pub head : made.head ≡ head_of_whole packet.head whole
@@ -251,7 +256,8 @@ abbrev pub entry_written : (number : ℕ) → Option Side → List Rule → List
 entry_written number side named ended =
     record { number = number; side = side; verdict = verdict_of named; packets = 1; rules = named; era = None; begun = None; ended = ended }
 
--- the entry of a record for which nothing is written, by this rule alone: it drops the record, or holds it
+-- the entry of a record for which nothing is written, by this rule alone: it drops the record, or
+-- holds it
 abbrev pub entry_stopped : (number : ℕ) → Option Side → Verdict → Rule → List Ended → PlainEntry
 entry_stopped number side verdict rule ended =
     record { number = number; side = side; verdict = verdict; packets = 0; rules = rule ∷ []; era = None; begun = None; ended = ended }

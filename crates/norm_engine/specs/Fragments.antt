@@ -1,5 +1,6 @@
--- The calls of reassembly that a history makes, and the datagram that a fragment completes (RFC 791 sections 2.3 and 3.2; the rules are this project's
--- profile). Lists of calls have the newest at the head, as the history has.
+-- The calls of reassembly that a history makes, and the datagram that a fragment completes (RFC 791
+-- sections 2.3 and 3.2; the rules are this project's profile). Lists of calls have the newest at
+-- the head, as the history has.
 use Rattle.std.specs.Prelude.{ℕ, ◌&&◌, nat_le, Bool, false, List, [], ◌∷◌, ◌++◌, Option, Some, None, is_none, option_map, if◌then◌else◌}
 use Rattle.wire_base.specs.declared.address.Link.{Link}
 use Rattle.wire_base.specs.declared.address.Side.{Side}
@@ -44,7 +45,8 @@ abbrev pub with_offered : PlainSettings → Option Fragment → (now : ℕ) → 
 with_offered settings None now calls = calls
 with_offered settings (Some piece) now calls = call_of settings calls now piece ∷ calls
 
--- the calls that a history makes: for each record first the removal of old datagrams by its time, then its fragment
+-- the calls that a history makes: for each record first the removal of old datagrams by its time,
+-- then its fragment
 abbrev pub piece_calls : PlainSettings → Link → List Item → List Call
 piece_calls settings link [] = []
 piece_calls settings link (item ∷ older) =
@@ -68,7 +70,7 @@ offering_of settings calls piece = record { piece = piece; view = view_of settin
 abbrev pub offering_in : PlainSettings → Link → List Call → records.Packet → Option Offering
 offering_in settings link calls r = option_map (offering_of settings calls) (fragment_in settings link r)
 
--- whether the condition of a rule on fragments holds of it
+-- whether the condition of a rule on fragments applies to it
 abbrev pub holds_offered : Option Offering → Rule → Bool
 holds_offered None rule = false
 holds_offered (Some o) rule = holds_fragment o.view o.piece rule
@@ -85,11 +87,13 @@ completes o = is_done (answer_at o.view o.piece)
 abbrev pub i_ttl : PlainSettings → Datagram → Bool
 i_ttl settings d = goes_in d.side && nat_le d.head.ttl settings.hops
 
--- the header of a complete datagram: that of the packet which completed it, with the fields from the first fragment that arrived with offset 0
+-- the header of a complete datagram: that of the packet which completed it, with the fields from
+-- the first fragment that arrived with offset 0
 abbrev pub head_of_whole : Ipv4 → Whole → Ipv4
 head_of_whole head whole = record head { tos = whole.tos; df = whole.df; more = false; offset = 0; ttl = whole.ttl }
 
--- the datagram to this side with this header, made of fragments, the last of which arrived in a packet that these rules rewrite
+-- the datagram to this side with this header, made of fragments, the last of which arrived in a
+-- packet that these rules rewrite
 abbrev pub datagram_made : PlainSettings → (fixes : List Rule) → Ipv4 → (octets : List ℕ) → Side → Datagram
 datagram_made settings fixes head octets side =
     let low = goes_in side && nat_le head.ttl settings.hops in

@@ -1,4 +1,5 @@
--- The frame of a datagram that is not a TCP segment (this project's profile): as read if no rule rewrites it, otherwise with a rewritten header.
+-- The frame of a datagram that is not a TCP segment (this project's profile): as read if no rule
+-- rewrites it, otherwise with a rewritten header.
 use Rattle.std.specs.Prelude.{ℕ, false, List, [], ◌∷◌, Option, Some, None, if◌then◌else◌}
 use Rattle.udp_codec.specs.Checksum.{mended}
 use Rattle.rule_book.specs.declared.rule.Rule.{Rule}
@@ -15,7 +16,8 @@ octets_sent settings d = if holds_dgram settings false d rules.USumOut then mend
 abbrev pub mended_frame : PlainSettings → (link : List ℕ) → Datagram → List ℕ
 mended_frame settings link d = frame_of link (anew settings d (octets_sent settings d))
 
--- the frame of a record that no rule drops: the one read, if these rules are none or it carries no datagram
+-- the frame of a record that no rule drops: the one read, if these rules are none or it carries no
+-- datagram
 abbrev pub frame_by : PlainSettings → (link read : List ℕ) → Option Datagram → (named : List Rule) → List ℕ
 frame_by settings link read None named = read
 frame_by settings link read (Some d) [] = read

@@ -14,14 +14,15 @@ use Rattle.norm_engine.specs.Agreement.{sent_in}
 use Rattle.norm_engine.specs.Laws.{IsSound}
 use Rattle.norm_engine.specs.Brought.{Brings, EndIsAdded, IsBrought, IsConsistent, OctetIsAdded, names_clash}
 
--- What was read from the offset `start` on was brought: a record brought each octet to its offset, and added it to the stream; and, if the reader has ended, one
--- brought the end there.
+-- What was read from the offset `start` on was brought: a record brought each octet to its offset,
+-- and added it to the stream; and, if the reader has ended, one brought the end there.
 pub record ReadsBrought (settings : PlainSettings) (link : Link) (era base : ℕ) (trace : List Item) (start : ℕ) (stream : List ℕ) (ended : Bool) : Type 0 where
   pub octets : (i octet : ℕ) → slice_get stream i ≡ Some octet → OctetIsAdded settings link era base (pos (start + i)) octet trace
   pub end : ended ≡ true → EndIsAdded settings link era base (pos (start + length stream)) trace
 
--- An octet is what the sender gave: a record brought it and added it to the stream, and each other record that brings an octet there brings the same one: an earlier
--- one if the offset was at or past Acked when the octet was added, and a later one if it is so then.
+-- An octet is what the sender gave. A record brought it and added it to the stream, and each other
+-- record that brings an octet there brings the same one. This is asked of an earlier record if the
+-- offset was at or past Acked when the octet was added, and of a later one if it is so then.
 pub record IsGivenAt (settings : PlainSettings) (link : Link) (era base : ℕ) (offset : ℤ) (octet : ℕ) (trace : List Item) : Type 0 where
   pub added : OctetIsAdded settings link era base offset octet trace
   pub before :
@@ -32,13 +33,15 @@ pub record IsGivenAt (settings : PlainSettings) (link : Link) (era base : ℕ) (
       → let history = older ++ (added.item ∷ added.older) in
       pos (acked base (written_in era (sent_in link history))) ≤ℤ offset → Brings settings link era (HasAt base offset other) item history → octet ≡ other
 
--- each octet that was read from the offset `start` on is what the sender gave, and, if the reader has ended, a record brought the end there
+-- each octet that was read from the offset `start` on is what the sender gave, and, if the reader
+-- has ended, a record brought the end there
 pub record ReadsGiven (settings : PlainSettings) (link : Link) (era base : ℕ) (trace : List Item) (start : ℕ) (stream : List ℕ) (ended : Bool) : Type 0 where
   pub octets : (i octet : ℕ) → slice_get stream i ≡ Some octet → IsGivenAt settings link era base (pos (start + i)) octet trace
   pub end : ended ≡ true → EndIsAdded settings link era base (pos (start + length stream)) trace
 
--- This holds of whatever a receiver of the family reads, from whichever offset it starts, whichever of the frames reach it in time, how often and in which
--- order, and whichever octets it keeps.
+-- This holds for whatever a receiver of the family reads, from whichever offset it starts,
+-- whichever of the frames reach it in time, how often and in which order, and whichever octets it
+-- keeps.
 abbrev pub EachReads : (hops base : ℕ) (places : List ℤ) (frames : List (List ℕ)) (Reads : (start : ℕ) (stream : List ℕ) (ended : Bool) → Type 0) → Type 0
 EachReads hops base places frames Reads =
     (member : Member) (start : ℕ) (schedule stream : List ℕ) (ended : Bool) →
@@ -46,7 +49,8 @@ EachReads hops base places frames Reads =
     DeliversInTime places member.distance base start frames schedule stream ended →
     Reads start stream ended
 
--- Of the frames of an era, with these offsets by its base, each receiver reads only what records brought, if the base is fixed.
+-- Each receiver of the frames of an era, with these offsets by its base, reads only what records
+-- brought, if the base is fixed.
 abbrev pub OnlyBroughtIsRead : PlainSettings → Link → (era : ℕ) → (trace : List Item) → (places : ℕ → List ℤ) → (frames : List (List ℕ)) → Type 0
 OnlyBroughtIsRead settings link era trace places frames =
     (base : ℕ) → base_of (written_in era (sent_in link trace)) ≡ Some base →
@@ -59,18 +63,19 @@ pub record IsGiven (settings : PlainSettings) (link : Link) (era : ℕ) (trace l
       (base : ℕ) → base_of (written_in era (sent_in link trace)) ≡ Some base →
       EachReads settings.hops base (places base) frames (ReadsGiven settings link era base trace)
 
--- Receivers of the frames of a trace read only what its records brought. If no record of an era differs from an earlier one at an offset at or past Acked, they
--- read what the sender gave, and no line of the era names T_CLASH.
+-- Receivers of the frames of a trace read only what its records brought. If no record of an era
+-- differs from an earlier one at an offset at or past Acked, they read what the sender gave, and no
+-- line of the era names T_CLASH.
 pub record ReadsItsRecords (settings : PlainSettings) (link : Link) (trace lines : List Item) (places : (era base : ℕ) → List ℤ) (frames : (era : ℕ) → List (List ℕ)) : Type 0 where
   pub brought : (era : ℕ) → OnlyBroughtIsRead settings link era trace (places era) (frames era)
   pub given : (era : ℕ) → IsConsistent settings link era trace → IsGiven settings link era trace lines (places era) (frames era)
 
--- This holds of a trace and its own frames.
+-- This holds for a trace and its own frames.
 abbrev pub ReadsRecords : PlainSettings → Link → List Item → Type 0
 ReadsRecords settings link trace =
     let sent = sent_in link trace in
     ReadsItsRecords settings link trace trace (λ era base. inward_places era base sent) (λ era. inward_packets era sent)
 
--- This holds of each sound trace.
+-- This holds for each sound trace.
 abbrev pub LawfulReadsRecords : Type 0
 LawfulReadsRecords = (settings : PlainSettings) (link : Link) (trace : List Item) → IsSound settings link trace → ReadsRecords settings link trace

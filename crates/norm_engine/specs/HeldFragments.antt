@@ -1,4 +1,5 @@
--- Which records brought the fragments that are held of a datagram, and which fragments contradict them (RFC 791 section 3.2; this project's profile).
+-- Which records brought the fragments that are held for a datagram, and which fragments contradict
+-- them (RFC 791 section 3.2; this project's profile).
 use Rattle.std.specs.Prelude.{◌≡◌, ◌≢◌, ◌↔◌, ℕ, Bool, true, false, List, [], ◌∷◌, ◌++◌, Contains, Some, None}
 use Rattle.std.specs.List.{AllByRecursion, list_any}
 use Rattle.wire_base.specs.declared.address.Link.{Link}
@@ -23,26 +24,30 @@ pub record WasHeld (settings : PlainSettings) (link : Link) (piece : Fragment) (
   pub carried : fragment_in settings link item.packet ≡ Some piece
   pub held : item.entry.verdict ≡ verdicts.Hold
 
--- The fragments that are held of the datagram of this one, before the record of an item. They have its source, destination, protocol and identification, and came
--- since that datagram was last completed or removed. Old datagrams are removed by the record's time.
+-- The fragments that are held for the datagram of this one, before the record of an item. They have
+-- its source, destination, protocol and identification, and arrived since that datagram was last
+-- completed or removed. Old datagrams are removed by the record's time.
 abbrev pub held_before : PlainSettings → Link → (older : List Item) → Item → Fragment → List Fragment
 held_before settings link older item piece = (view_of settings (pieces_before settings link older item.packet) piece).pieces
 
--- The datagram that this fragment completes is made of it and of the fragments held before it, each octet being that of one of them. Each held one was brought by
--- an earlier record, which was held, and is of the same datagram.
+-- The datagram that this fragment completes is made of it and of the fragments held before it, each
+-- octet being that of one of them. Each held one was brought by an earlier record, which was held,
+-- and is of the same datagram.
 pub record IsOfHeld (settings : PlainSettings) (link : Link) (item : Item) (older : List Item) (piece : Fragment) : Type 0 where
   pub made : IsOfPieces (piece ∷ held_before settings link older item piece)
   pub brought : AllByRecursion (λ other. WasHeld settings link other older × (other.id ≡ piece.id)) (held_before settings link older item piece)
 
--- This holds of each record of a lawful trace whose fragment completes its datagram.
+-- This holds for each record of a lawful trace whose fragment completes its datagram.
 abbrev pub LawfulJoinsHeld : Type 0
 LawfulJoinsHeld =
     (settings : PlainSettings) (link : Link) (item : Item) (older : List Item) (piece : Fragment) → Lawful settings link older
     → fragment_in settings link item.packet ≡ Some piece → completes (offering_of settings (pieces_before settings link older item.packet) piece) ≡ true
     → IsOfHeld settings link item older piece
 
--- A record carries a fragment that contradicts a held one: at an offset of their datagram it has another octet than a fragment of an earlier record, which is
--- still held. No rule that is tested before F_CLASH drops it: none on the link, the header and the protocol, none on the fragment alone, and F_END does not.
+-- A record carries a fragment that contradicts a held one: at an offset of their datagram its octet
+-- differs from that of a fragment of an earlier record, which is still held. No rule that is tested
+-- before F_CLASH drops it: none on the link, the header and the protocol, none on the fragment
+-- alone, and F_END does not.
 pub record ContradictsHeld (settings : PlainSettings) (link : Link) (item : Item) (older : List Item) : Type 0 where
   pub piece : Fragment
   pub carried : fragment_in settings link item.packet ≡ Some piece
@@ -68,7 +73,8 @@ is_fragment_clash _ = false
 abbrev pub names_fragment_clash : List Rule → Bool
 names_fragment_clash named = list_any is_fragment_clash named
 
--- F_CLASH is exact: each entry of the trace names it exactly if its record carries a fragment that contradicts a held one.
+-- F_CLASH is exact: each entry of the trace names it exactly if its record carries a fragment that
+-- contradicts a held one.
 abbrev pub NamesEachFragmentClash : PlainSettings → Link → List Item → Type 0
 NamesEachFragmentClash settings link [] = Unit {0}
 NamesEachFragmentClash settings link (item ∷ older) =

@@ -1,4 +1,5 @@
--- Items, and the times of records (this project's profile). Traces and histories are lists of items with the newest at the head.
+-- Items, and the times of records (this project's profile). Traces and histories are lists of items
+-- with the newest at the head.
 use Rattle.std.specs.Prelude.{ℕ, max, List, [], ◌∷◌, map}
 use Rattle.pcap_file.specs.Records.{Packet}
 use Rattle.rule_book.specs.Entries.{PlainEntry}

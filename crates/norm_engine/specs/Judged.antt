@@ -4,7 +4,8 @@ use Rattle.rule_book.specs.declared.rule.Rule.{Rule}
 use Rattle.norm_engine.specs.declared.judge.Answer.{Answer}
 use Rattle.norm_engine.specs.declared.judge.Answer.TheVariants as answers
 
--- no rule holds; the UDP checksum is corrected; a rule drops it; or it is a TCP segment with this header
+-- no rule holds; the UDP checksum is corrected; a rule drops it; or it is a TCP segment with this
+-- header
 pub data Judged : Type 0 where
   Pass : Judged
   Mend : Judged

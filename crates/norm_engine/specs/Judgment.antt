@@ -8,7 +8,8 @@ use Rattle.norm_engine.specs.declared.judge.Decision.{Decision}
 use Rattle.norm_engine.specs.declared.judge.Decision.TheVariants as decisions
 use Rattle.norm_engine.specs.declared.judge.Parsed.{Parsed}
 
--- a record that is ARP, or that a rule drops; a fragment that is held; a packet that is written; or a TCP segment with this header
+-- a record that is ARP, or that a rule drops; a fragment that is held; a packet that is written; or
+-- a TCP segment with this header
 pub data Judgment : Type 0 where
   Arp : Judgment
   Drop : Option Side → Rule → Judgment

@@ -27,17 +27,19 @@ pub record IsSound (settings : PlainSettings) (link : Link) (trace : List Item) 
   pub octets : HaveOctets trace
   pub lawful : Lawful settings link trace
 
--- an entry counts the frames of its item, of which there are at most two, and reports each era that ended with its octets
+-- an entry counts the frames of its item, of which there are at most two, and reports each era that
+-- ended with its octets
 pub record IsCounted (item : Item) : Type 0 where
   pub packets : item.entry.packets ≡ length item.frames
   pub few : length item.frames ≤ 2
   pub octets : IsOfVersion 2 item.entry
 
--- this holds of each item
+-- this holds for each item
 abbrev pub ItemsAreCounted : Type 0
 ItemsAreCounted = (settings : PlainSettings) (link : Link) (history : List Item) (r : Packet) → IsCounted (item_of settings link history r)
 
--- In every lawful trace each clean record has exactly one frame, with its payload, and identical to the record if the verdict is pass.
+-- In every lawful trace each clean record has exactly one frame, with its payload, and identical to
+-- the record if the verdict is pass.
 abbrev pub LawfulKeepsClean : Type 0
 LawfulKeepsClean = (settings : PlainSettings) (link : Link) (trace : List Item) → IsSound settings link trace → CleanIsKept settings link trace
 
@@ -52,8 +54,8 @@ abbrev pub LawfulCallsAreMade : Type 0
 LawfulCallsAreMade =
     (settings : PlainSettings) (link : Link) (trace : List Item) → IsSound settings link trace → AreOfSegments settings (flow_calls settings link trace)
 
--- After a history the numbers of live eras, of blocks with octets of streams, of held datagrams and of blocks with octets of fragments do not exceed the
--- settings.
+-- After a history the numbers of live eras, of blocks with octets of streams, of held datagrams and
+-- of blocks with octets of fragments do not exceed the settings.
 pub record IsWithin (settings : PlainSettings) (link : Link) (history : List Item) : Type 0 where
   pub flows : length (eras (flow_calls settings link history)) ≤ settings.flows
   pub held : IsBounded settings (flow_calls settings link history)
@@ -82,21 +84,23 @@ LawfulAgrees = (settings : PlainSettings) (link : Link) (trace : List Item) → 
 abbrev pub LawfulReadsOneStream : Type 0
 LawfulReadsOneStream = (settings : PlainSettings) (link : Link) (trace : List Item) → IsSound settings link trace → ReadsOneStream settings.hops link trace
 
--- The frames written inwards in an era whose base is fixed are of this stream: their octets and FINs are those written first, and no octet is at or past its
--- end.
+-- The frames written inwards in an era whose base is fixed are of this stream: their octets and
+-- FINs are those written first, and no octet is at or past its end.
 abbrev pub LawfulIsOfOneStream : Type 0
 LawfulIsOfOneStream =
     (settings : PlainSettings) (link : Link) (trace : List Item) → IsSound settings link trace
     → (era base : ℕ) → let sent = sent_in link trace in let ws = written_in era sent in
     base_of ws ≡ Some base → AreOfStream (first base ws) (end_of base ws) (inward_places era base sent) (inward_packets era sent)
 
--- At each history of every lawful trace, a monitor misses nothing of what was written inwards in an era so far.
+-- At each history of every lawful trace, a monitor misses nothing of what was written inwards in an
+-- era so far.
 abbrev pub LawfulMissesNothing : Type 0
 LawfulMissesNothing =
     (settings : PlainSettings) (link : Link) (trace : List Item) → IsSound settings link trace → AtEachHistory (MissesNothing settings.hops link) trace
 
--- In each era of a lawful trace whose base is fixed, the frames written inwards describe one stream, each at the offset of its number: each of their octets is
--- the first at its offset, and each FIN is at the offset of the first one.
+-- In each era of a lawful trace whose base is fixed, the frames written inwards describe one
+-- stream, each at the offset of its number. Each of their octets is the first at its offset, and
+-- each FIN is at the offset of the first one.
 abbrev pub LawfulTellsStreams : Type 0
 LawfulTellsStreams =
     (settings : PlainSettings) (link : Link) (trace : List Item) → IsSound settings link trace

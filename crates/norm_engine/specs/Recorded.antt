@@ -1,4 +1,5 @@
--- Inbound packets as they were recorded, and what receivers of them read where norm changed none of them (RFC 791 section 3.1, and this project's profile).
+-- Inbound packets as they were recorded, and what receivers of them read where norm changed none of
+-- them (RFC 791 section 3.1, and this project's profile).
 use Rattle.std.specs.Prelude.{◌≡◌, ◌≢◌, ℕ, ◌==◌, ◌&&◌, ◌||◌, not, Bool, true, List, [], ◌∷◌, ◌++◌, map, Some, if◌then◌else◌}
 use Rattle.std.specs.List.{AllByRecursion}
 use Rattle.wire_base.specs.declared.address.Link.{Link}
@@ -20,7 +21,8 @@ use Rattle.norm_engine.specs.Rows.{side_of_record}
 use Rattle.norm_engine.specs.Agreement.{AtEachHistory, sent_in}
 use Rattle.norm_engine.specs.Laws.{IsSound}
 
--- the addresses of packets that go inwards between two hosts: the source, which is outside, and the destination, which is inside
+-- the addresses of packets that go inwards between two hosts: the source, which is outside, and the
+-- destination, which is inside
 pub record AddressPair : Type 0 where
   pub outside : ℕ
   pub inside : ℕ
@@ -37,8 +39,9 @@ has_pair link pair frame = carries_ip link frame && has_addresses link pair fram
 abbrev pub is_readable : Link → (frame : List ℕ) → Bool
 is_readable link frame = not (ip.is_short (packet_in link frame)) && not (ip.has_other_version (packet_in link frame))
 
--- The record may be of this pair: its frame carries IPv4, by the EtherType on Ethernet, and its addresses cannot be read or are these. A frame of another
--- EtherType is of no pair, also if hosts read an IPv4 packet in it, as after a VLAN tag.
+-- The record may be of this pair: its frame carries IPv4, by the EtherType on Ethernet, and its
+-- addresses cannot be read or are these. A frame of another EtherType is of no pair, even if hosts
+-- read an IPv4 packet in it, as after a VLAN tag.
 abbrev pub may_have_pair : Link → AddressPair → Packet → Bool
 may_have_pair link pair r = carries_ip link r.octets && (not (is_readable link r.octets) || has_addresses link pair r.octets)
 
@@ -70,8 +73,9 @@ pub record IsWrittenAsRecorded (settings : PlainSettings) (link : Link) (item : 
   pub side : item.entry.side ≡ side_of_record settings link item.packet
   pub frame : item.frames ≡ item.packet.octets ∷ []
 
--- Each of these records that does not go outwards was written as it was recorded; so the recorded frames that go inwards are those that were written inwards,
--- frame for frame and in the same order.
+-- Each of these records that does not go outwards was written as it was recorded. So the recorded
+-- frames that go inwards are those that were written inwards, frame for frame and in the same
+-- order.
 pub record AreWrittenAsRecorded (settings : PlainSettings) (link : Link) (concerns : Packet → Bool) (trace : List Item) : Type 0 where
   pub each :
       AllByRecursion
@@ -93,9 +97,10 @@ recorded_for settings link item =
 abbrev pub recorded_in : PlainSettings → Link → List Item → List Sent
 recorded_in settings link trace = map (recorded_for settings link) trace
 
--- The recorded packets of the era that go inwards are those that were written inwards in it, in the same order. So a host that had the recorded packets read what
--- receivers of the written ones read: any two agree, each reads a part of the era's stream, and a monitor of them misses nothing. Whether the base is fixed, the
--- base, the offsets and the stream are those of the trace.
+-- The recorded packets of the era that go inwards are those that were written inwards in it, in the
+-- same order. So a host that had the recorded packets read what receivers of the written ones read:
+-- any two agree, each reads a part of the era's stream, and a monitor of them misses nothing.
+-- Whether the base is fixed, the base, the offsets and the stream are those of the trace.
 pub record WasReadSo (settings : PlainSettings) (link : Link) (era : ℕ) (trace : List Item) : Type 0 where
   pub packets : inward_packets era (recorded_in settings link trace) ≡ inward_packets era (sent_in link trace)
   pub agree :
@@ -115,9 +120,11 @@ abbrev pub IsOfPair : Link → AddressPair → (era : ℕ) → List Item → Typ
 IsOfPair link pair era trace =
     AllByRecursion (λ item. item.entry.era ≡ Some era → item.entry.side ≢ Some Outward → has_pair link pair item.packet.octets ≡ true) trace
 
--- Before the first record and after each: if each line so far that is inbound or has no side has the verdict pass, the recorded packets so far are those
--- written inwards, in all and in each era, and were read so. If that is the verdict of each such line of a record that may be of a pair of addresses, the same
--- holds of these records and of the eras of that pair. Each era is of a pair.
+-- Before the first record and after each, if each line so far that is inbound or has no side has
+-- the verdict pass, the inward packets as recorded so far are those written inwards. This holds in
+-- all and in each era, and they were read so. If that is the verdict of each such line of a record
+-- that may be of a pair of addresses, the same holds for these records and for the eras of that
+-- pair. Each era is of a pair.
 pub record UnchangedWasReadSo (settings : PlainSettings) (link : Link) (trace : List Item) : Type 0 where
   pub all_written : AtEachHistory (λ history. PassInwards any_record history → AreWrittenAsRecorded settings link any_record history) trace
   pub all_read : AtEachHistory (λ history. PassInwards any_record history → (era : ℕ) → WasReadSo settings link era history) trace
@@ -131,6 +138,6 @@ pub record UnchangedWasReadSo (settings : PlainSettings) (link : Link) (trace : 
       trace
   pub pair_of : (era : ℕ) → (pair : AddressPair) × IsOfPair link pair era trace
 
--- this holds of each lawful trace of records of octets with at most 254 routers
+-- this holds for each lawful trace of records of octets with at most 254 routers
 abbrev pub LawfulWasReadSo : Type 0
 LawfulWasReadSo = (settings : PlainSettings) (link : Link) (trace : List Item) → IsSound settings link trace → UnchangedWasReadSo settings link trace

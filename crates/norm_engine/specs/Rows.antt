@@ -1,5 +1,5 @@
--- The rules on the header of a TCP segment, one definition each in the order of their numbers (RFC 9293 section 3.1; which segments are dropped is this
--- project's profile).
+-- The rules on the header of a TCP segment, one definition each in the order of their numbers (RFC
+-- 9293 section 3.1; which segments are dropped is this project's profile).
 use Rattle.std.specs.Prelude.{◌==◌, ◌&&◌, not, Bool, false, Option, None, is_none, find, if◌then◌else◌}
 use Rattle.wire_base.specs.declared.address.Link.{Link}
 use Rattle.wire_base.specs.declared.address.Side.{Side}
@@ -38,11 +38,13 @@ t_sum settings d = tcp.has_wrong_sum (pseudo_of d) d.octets && not (is_offloaded
 abbrev pub t_flags : Datagram → Bool
 t_flags d = tcp.has_illegal_flags d.octets
 
--- T_OPT_BAD: before the end option or the end of the area an option has no length octet, a length below 2, or extends past the area
+-- T_OPT_BAD: before the end option or the end of the area an option has no length octet, a length
+-- below 2, or extends past the area
 abbrev pub t_opt_bad : Datagram → Bool
 t_opt_bad d = tcp.has_bad_options d.octets
 
--- whether the condition of a rule on the header of a segment holds of the octets of a datagram; the rules of other layers hold of none
+-- whether the condition of a rule on the header of a segment applies to the octets of a datagram;
+-- the rules of other layers apply to none
 abbrev pub holds_header : PlainSettings → Datagram → Rule → Bool
 holds_header settings d rules.TShort = t_short d
 holds_header settings d rules.THlen = t_hlen d
@@ -51,7 +53,7 @@ holds_header settings d rules.TFlags = t_flags d
 holds_header settings d rules.TOptBad = t_opt_bad d
 holds_header settings d _ = false
 
--- the same of a datagram that is TCP; of another one no rule holds
+-- the same for a datagram that is TCP; no rule applies to another one
 abbrev pub holds_tcp : PlainSettings → Datagram → Rule → Bool
 holds_tcp settings d rule = is_tcp d && holds_header settings d rule
 

@@ -1,4 +1,5 @@
--- Which trace is lawful: what norm does with each record of a capture after those before it (this project's profile).
+-- Which trace is lawful: what norm does with each record of a capture after those before it (this
+-- project's profile).
 use Rattle.std.specs.Prelude.{◌≡◌, ℕ, ◌+◌, ◌&&◌, not, Bool, false, List, [], ◌∷◌, ◌++◌, length, Option, Some, None, option_map, find, filter, if◌then◌else◌}
 use Rattle.std.specs.Option.{is_some}
 use Rattle.wire_base.specs.declared.address.Link.{Link}
@@ -37,8 +38,9 @@ abbrev pub is_quoted_live : List Call → Option QuotedKey → Bool
 is_quoted_live calls None = false
 is_quoted_live calls (Some q) = is_some (live calls (key_quoted q))
 
--- what the rules of a record read: the fragment that it carries, with what its rules read; the datagram that it makes after its history; the segment that this
--- is, if no rule before those of eras drops it; and the past of the record
+-- What the rules of a record read: the fragment that it carries, with what its rules read, and the
+-- datagram that it makes after its history. Also the segment that this is, if no rule before those
+-- of eras drops it, and the past of the record.
 pub record Read : Type 0 where
   pub piece : Option Offering
   pub datagram : Option Datagram
@@ -59,7 +61,7 @@ abbrev pub holds_of : Option Datagram → (Datagram → Bool) → Bool
 holds_of None test = false
 holds_of (Some d) test = test d
 
--- whether the rule of a layer holds of what was read
+-- whether the rule of a layer applies to what was read
 abbrev pub holds_at : Layer → PlainSettings → Link → Read → Packet → Rule → Bool
 holds_at Layer.link settings link read r rule = holds_ip settings link r rule
 holds_at Layer.header settings link read r rule = holds_ip settings link r rule
@@ -92,7 +94,8 @@ dropped_by settings link read r = find (drops settings link read r) drop_rows
 unfoldable pub noted_rows : PlainSettings → Link → Read → Packet → List Rule
 noted_rows settings link read r = filter (λ rule. is_note read rule && holds settings link read r rule) drop_rows
 
--- the rules after the drop rules that hold, those that hold or rewrite a packet, in the order of their numbers
+-- the rules after the drop rules that hold, those that hold or rewrite a packet, in the order of
+-- their numbers
 unfoldable pub named_rows : PlainSettings → Link → Read → Packet → List Rule
 named_rows settings link read r = filter (holds settings link read r) (fix_rows ++ step_rows)
 
@@ -109,7 +112,8 @@ abbrev pub frames_by : Option Rule → (held : Bool) → (passed : List ℕ) →
 frames_by (Some rule) held passed = []
 frames_by None held passed = if held then [] else passed ∷ []
 
--- the frames of a record, by its segment: those of the segment's packets, among them a probe for a dropped one; otherwise its own, if no rule drops it
+-- the frames of a record, by its segment: those of the segment's packets, among them a probe for a
+-- dropped one; otherwise its own, if no rule drops it
 abbrev pub frames_with : PlainSettings → Link → Read → Packet → (segment : Option Datagram) → List (List ℕ)
 frames_with settings link read r (Some d) = frames_of (link_octets link r.octets) (outcome_of settings read d).packets
 frames_with settings link read r None =
@@ -123,7 +127,8 @@ abbrev pub verdict_by : Option Rule → (held : Bool) → (named : List Rule) �
 verdict_by (Some rule) held named = verdicts.Drop
 verdict_by None held named = if held then verdicts.Hold else verdict_of named
 
--- the rule that drops a record is its only one, and so is F_HELD; otherwise the notes precede the rules that rewrite it
+-- the rule that drops a record is its only one, and so is F_HELD; otherwise the notes precede the
+-- rules that rewrite it
 abbrev pub rules_by : Option Rule → (held : Bool) → (noted named : List Rule) → List Rule
 rules_by (Some rule) held noted named = rule ∷ []
 rules_by None held noted named = if held then rules.FHeld ∷ [] else noted ++ named
@@ -133,7 +138,8 @@ abbrev pub side_by : Option Rule → Option Side → Option Side
 side_by (Some rule) side = if tells_side rule then side else None
 side_by None side = side
 
--- the eras in the outcome of a segment: the one that it belongs to, the one that begins, and those that end
+-- the eras in the outcome of a segment: the one that it belongs to, the one that begins, and those
+-- that end
 abbrev pub era_by : Option Outcome → Option ℕ
 era_by None = None
 era_by (Some outcome) = outcome.era

@@ -1,4 +1,5 @@
--- How much memory a monitor needs (this project's profile): what waits in it is what norm holds of a live era to compare octets that arrive again.
+-- How much memory a monitor needs (this project's profile): what waits in it is what norm holds for
+-- a live era to compare octets that arrive again.
 use Rattle.std.specs.Prelude.{◌≡◌, ℕ, ◌+◌, ◌*◌, ◌≤◌, Bool, List, length, ℤ, pos, Option, Some, None, Contains, is_some}
 use Rattle.std.specs.List.{count_by, range_with_len}
 use Rattle.wire_base.specs.declared.address.Link.{Link}
@@ -16,7 +17,8 @@ use Rattle.norm_engine.specs.Calls.{flow_calls}
 use Rattle.norm_engine.specs.Items.{Item}
 use Rattle.norm_engine.specs.Laws.{IsSound}
 
--- A receiver after packets of an era that were written inwards, each in time. It has read up to Acked, or has ended one octet before it.
+-- A receiver after packets of an era that were written inwards, each in time. It has read up to
+-- Acked, or has ended one octet before it.
 pub record HasReadAcknowledged (hops : ℕ) (link : Link) (trace : List Item) (era base start : ℕ) (r : Receiver) : Type 0 where
   pub based : base_of (written_in era (sent_in link trace)) ≡ Some base
   pub member : Member
@@ -28,15 +30,16 @@ pub record HasReadAcknowledged (hops : ℕ) (link : Link) (trace : List Item) (e
   pub last : delivers.delivery.last ≡ r
   pub has_read : acked base (written_in era (sent_in link trace)) ≤ read_to start r.stream r.ended
 
--- An octet that waits in it at or past the next offset is the first one there, at or past Acked; norm holds it while the era is live.
+-- An octet that waits in it at or past the next offset is the first one there, at or past Acked;
+-- norm holds it while the era is live.
 abbrev pub WaitingIsKept : Type 0
 WaitingIsKept =
     (settings : PlainSettings) (link : Link) (trace : List Item) (era base start : ℕ) (r : Receiver) → IsSound settings link trace
     → HasReadAcknowledged settings.hops link trace era base start r
     → (offset octet : ℕ) → start + length r.stream ≤ offset → r.waiting (pos offset) ≡ Some octet → kept_at (written_in era (sent_in link trace)) offset ≡ Some octet
 
--- So of a live era at most 256 octets wait for each cell that norm holds of it. `IsWithin` says how many these are: together at most `cells`, of one era at most
--- `quota`.
+-- So of a live era at most 256 octets wait for each cell that norm holds for it. `IsWithin` says
+-- how many these are: together at most `cells`, of one era at most `quota`.
 abbrev pub WaitingIsFew : Type 0
 WaitingIsFew =
     (settings : PlainSettings) (link : Link) (trace : List Item) (a : Alive) (base start : ℕ) (r : Receiver) → IsSound settings link trace

@@ -158,9 +158,9 @@ impl Engine {
     /// Fills the entry of this record after all before it, and replaces the frames in the outbox by
     /// its frames. Returns true only if its one frame is the record as it was read; the outbox is
     /// then empty. Allocates no memory.
-    // Inlined into the loop over records, with the functions on the way of a record up to its
+    // It is inlined into the loop over records, with the functions that a record passes up to its
     // segment or fragment, so that no registers are saved for a record. The compiler inlines none
-    // of them by itself, since `step` has a copy too.
+    // of them without the attribute, since `step` has a copy too.
     #[inline(always)]
     pub fn step_into(&mut self, input: &Record<'_>, out: &mut Outbox, entry: &mut Entry) -> bool
         requires { self.old.records < 2 ^ 32 - 1 }

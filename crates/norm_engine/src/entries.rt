@@ -37,7 +37,7 @@ pub fn renew(entry: &mut Entry, number: u32)
     entry.side = None;
     entry.verdict = Verdict::Pass;
     entry.packets = 1;
-    // Cheaper than `clear`, which writes each rule.
+    // It is cheaper than `clear`, which writes each rule.
     entry.rules = ArrayVec::new();
     entry.era = None;
     entry.begun = None;

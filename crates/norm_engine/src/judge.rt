@@ -83,8 +83,8 @@ pub enum Answer {
 }
 
 /// Judges a record by the rules before those of eras. A fragment is offered to those held. If it
-/// completes its datagram, the datagram is written to the front of the buffer and judged. Fills what
-/// is read of the record.
+/// completes its datagram, the datagram is written to the front of the buffer and judged. Fills
+/// what is read of the record.
 #[inline(always)]
 pub fn judge<'a>(
     settings: &Settings,
@@ -221,8 +221,8 @@ fn joined(answer: Answer, packet: &mut IpPacket<'_>) -> Decision
     }
 }
 
-// Returns the answer to the datagram of a packet, and fills the header of its segment. It is part of
-// the step, and the rules on each protocol are functions of their own, so that a record saves only
+// Returns the answer to the datagram of a packet, and fills the header of its segment. It is part
+// of the step, and the rules on each protocol are separate functions, so that a record saves only
 // the registers that its protocol needs.
 #[inline(always)]
 fn judge_datagram(

@@ -197,9 +197,9 @@ pub fn messages_are_read_alike()
     plain_packets_are_read_alike();
 }
 
-/// Proves of a receiver that hears the frames of an era in time and has read up to all that is
-/// acknowledged: each octet that waits in it at or past its next offset is the first one there, and
-/// if the era is live, at most 256 wait for each cell that norm holds of it.
+/// Proves what waits in a receiver that hears the frames of an era in time and has read all that is
+/// acknowledged. Each octet that waits in it at or past its next offset is the first one there. If
+/// the era is live, at most 256 wait for each cell that norm holds for it.
 pub fn monitors_need_cells()
     ensures kept { WaitingIsKept }
     ensures few { WaitingIsFew }
@@ -211,9 +211,9 @@ pub fn monitors_need_cells()
     probes_are_silent();
 }
 
-/// Proves that each octet of an era's stream in a lawful trace, and its end, was brought by the very
-/// record that added it: one that went inwards and was written in the era, and whose own segment has
-/// it at this offset.
+/// Proves that each octet of an era's stream in a lawful trace, and its end, was brought by the
+/// very record that added it. That record went inwards and was written in the era, and its own
+/// segment has it at this offset.
 pub fn lawful_invents_nothing()
     ensures { LawfulInventsNothing }
 {
@@ -227,9 +227,9 @@ pub fn lawful_invents_nothing()
     lawful_calls_are_made();
 }
 
-/// Proves that the entry of a record in a lawful trace names T_CLASH exactly if the record is written,
-/// has neither SYN nor RST, and has, at an offset at or past Acked, another octet than the one
-/// written first there.
+/// Proves when the entry of a record in a lawful trace names T_CLASH. It does so exactly if the
+/// record is written, has neither SYN nor RST, and has, at an offset at or past Acked, an octet
+/// that differs from the one written first there.
 pub fn lawful_clashes_are_real()
     ensures { LawfulClashesAreReal }
 {
@@ -252,8 +252,8 @@ pub fn consistent_is_without_clash()
 }
 
 /// Proves that receivers of the frames of an era in a lawful trace read only what records brought.
-/// If no record of the era differs from an earlier one at an offset at or past Acked, no entry of it
-/// names T_CLASH, and receivers read what the sender gave.
+/// If no record of the era differs from an earlier one at an offset at or past Acked, no entry of
+/// it names T_CLASH, and receivers read what the sender gave.
 pub fn lawful_reads_records()
     ensures { LawfulReadsRecords }
 {
@@ -262,9 +262,10 @@ pub fn lawful_reads_records()
     lawful_reads_one_stream();
 }
 
-/// Proves that the entry of a record in a lawful trace names F_CLASH exactly if the record carries a
-/// fragment that no earlier rule drops, and that has, at an offset of its datagram, another octet
-/// than a fragment of an earlier record, which is still held.
+/// Proves that the entry of a record in a lawful trace names F_CLASH exactly if the record carries
+/// a fragment that no earlier rule drops and that contradicts a held one. It does so if, at an
+/// offset of its datagram, its octet differs from that of a fragment of an earlier record, which is
+/// still held.
 pub fn lawful_fragment_clashes_are_real()
     ensures { LawfulFragmentClashesAreReal }
 {}
@@ -275,10 +276,10 @@ pub fn lawful_joins_held()
     ensures { LawfulJoinsHeld }
 {}
 
-/// Proves of each lawful trace, before the first record and after each: if each line so far that is
-/// inbound or has no side is `pass`, the recorded packets that go inwards are those that were
-/// written, so what receivers of the written packets read, receivers of the recorded ones read. The
-/// same of the records and eras of a pair of addresses; each era is of one.
+/// Proves of each lawful trace, before the first record and after each, that the inward packets as
+/// recorded are those that were written. This holds if each line so far that is inbound or has no
+/// side is `pass`. So receivers of the recorded packets read what receivers of the written ones
+/// read. The same of the records and eras of a pair of addresses; each era is of one.
 pub fn unchanged_traces_were_read_so()
     ensures { LawfulWasReadSo }
 {
@@ -292,10 +293,10 @@ pub fn unchanged_traces_were_read_so()
     lawful_misses_nothing();
 }
 
-/// Proves of any two eras of a lawful trace: if all that was written inwards in the first is
-/// acknowledged, and the base of the second is not before that, no octet of the second is at an
-/// offset that a receiver has read in the first. If besides no FIN was written inwards in the first
-/// and no SYN in the second, both are read as one era.
+/// Proves of any two eras of a lawful trace that nothing is read again. Premises: all that was
+/// written inwards in the first is acknowledged, and the base of the second is not before that.
+/// Then no octet of the second is at an offset that a receiver has read in the first. If besides no
+/// FIN was written inwards in the first and no SYN in the second, both are read as one era.
 pub fn lawful_eras_go_on()
     ensures { LawfulErasGoOn }
 {

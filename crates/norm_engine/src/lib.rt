@@ -1,23 +1,24 @@
 //! The engine: the entry and the frames of each record, after all records before it.
 //!
-//! Proved: an engine that represents a history returns from `Engine::step` exactly the entry and
-//! the frames that its next record has after that history, and then represents the history with
-//! that item. `flows`, `held`, `datagrams` and `frag_cells` return how many eras are live, cells
-//! hold octets, datagrams are held and cells hold octets of fragments; none exceeds its setting.
+//! Proved: `Engine::step` of an engine that represents a history returns exactly the entry and the
+//! frames that its next record has after that history. The engine then represents the history with
+//! that item. `flows`, `held`, `datagrams` and `frag_cells` return the numbers of live eras, of
+//! cells with octets, of held datagrams, and of cells with octets of fragments. None exceeds its
+//! setting.
 //!
 //! Laws: records have one lawful trace, whatever the seed. The calls of a lawful trace are those
 //! that the rules make of its segments. In it each clean record has exactly one frame with its
-//! payload, octet for octet if the verdict is pass; at each history nothing exceeds the settings,
-//! and with cells for the quota of each era T_ROOM drops nothing; and in each era all receivers
-//! agree, also across reassembly, and read parts of one stream, from whichever offset each starts.
-//! Nothing is invented: each octet of an era's stream, and its end, was brought by the very record
-//! that added it. An entry names T_CLASH exactly if its record is written, has neither SYN nor RST,
-//! and has, at an offset at or past Acked, another octet than the one written first there. It names
-//! F_CLASH exactly if its record carries a fragment, which no rule tested before drops, with another
-//! octet than a held one. Packets that norm passed unchanged were read as they were recorded, in all
-//! or between one pair of addresses, and two eras are read as one if the second goes on where the
-//! first ended. The laws on traces assume records of octets and at most 254 routers; `bridge_run`
-//! proves both of each run.
+//! payload, octet for octet if the verdict is pass. At each history nothing exceeds the settings,
+//! and with cells for the quota of each era T_ROOM drops nothing. In each era all receivers agree,
+//! also across reassembly, and read parts of one stream, from whichever offset each starts. Nothing
+//! is invented: each octet of an era's stream, and its end, was brought by the very record that
+//! added it. An entry names T_CLASH exactly if its record is written, has neither SYN nor RST, and
+//! has, at an offset at or past Acked, an octet that differs from the one written first there. It
+//! names F_CLASH exactly if its record carries a fragment, which no rule tested before drops, with
+//! an octet that differs from a held one. Packets that norm passed unchanged were read as they were
+//! recorded, in all or between one pair of addresses, and two eras are read as one if the second
+//! goes on where the first ended. The laws on traces assume records of octets and at most 254
+//! routers; `bridge_run` proves both of each run.
 #![tactic(auto)]
 
 pub mod engine;

@@ -80,7 +80,8 @@ behind_in : (cs : List Choice) (text : Text) → Behind (word_in cs text) text
 behind_in [] text = tt
 behind_in (c ∷ cs) text = behind_found (word_as c text) c text (word_in cs text) refl (behind_in cs text)
 
--- the form of a word of this kind: the first of the names does not begin with `-` (45), and an option is `--name` or `--name=value` (61)
+-- the form of a word of this kind: the first of the names does not begin with `-` (45), and an
+-- option is `--name` or `--name=value` (61)
 abbrev pub IsSpelled : Word → Text → Type 0
 IsSpelled names word = begins_with_dash word ≡ false
 IsSpelled (alone c) word = (word ≡ 45 ∷ 45 ∷ name_of c) × (takes_value (kind_of c) ≡ false)

@@ -253,7 +253,7 @@ value_found m words line e w rows_are c =
     ∙ ap head_of (defaults_found c (settled_rows run_rules h.pending h.rows))
     ∙ ap (λ f. head_of (or_absent (takes_value (kind_of c)) f)) (h.agrees c)
 
--- the same settings are told by the values found and by those given
+-- the values found and those given describe the same settings
 same_told : (given : Choice → Option Text) (prefixes : List wire.Prefix) → settings_of (λ c. told (takes_value (kind_of c)) (given c)) prefixes ≡ settings_of given prefixes
 same_told given prefixes = simp (told_value, told_alone)
 

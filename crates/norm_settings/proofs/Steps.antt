@@ -85,7 +85,8 @@ shape = (built run_command).top
 abbrev pub run_rules : List Rule
 run_rules = shape.rules
 
--- the state between two words: the entries and the pending value, the option that waits for its value, and the position
+-- the state between two words: the entries and the pending value, the option that waits for its
+-- value, and the position
 abbrev pub at : List Row → Option (Text × List Text) → Waiting → ℕ → Walk
 at rows pending waiting position = record { held = record { rows = rows; pending = pending; skip = 0 }; waiting = waiting; position = position; is_trailing = false; stopped = None }
 

@@ -1,4 +1,5 @@
--- clap's walk over the words of a run or a load: they are accepted, and at its end each option and name has its value.
+-- clap's walk over the words of a run or a load: they are accepted, and at its end each option and
+-- name has its value.
 use Rattle.std.proofs.Common.{◌≡◌, ℕ, ◌==◌, ◌&&◌, not, List, [], ◌∷◌, ◌++◌, Bool, true, false, Some, None, refl, sym, ap, ◌∙◌, codes, length, nat_le, is_some, if◌then◌else◌, arith, subst, append-nil, append_assoc, fold, Option}
 use Rattle.std.specs.List.{list_all}
 use Rattle.std.proofs.Math.Bool.{or-true}
@@ -22,7 +23,8 @@ use Rattle.norm_settings.specs.Grammar.{IsWritten, by_sign, by_word, by_name, Is
 use Rattle.norm_settings.proofs.Steps.{shape, run_rules, at, rule, IsPlain, has, joined_walk, joined_turn, name_walk, name_turn, alone_walk, alone_turn, value_walk, value_turn, value_settles, input_step, output_step, prefix_step, prefix_more_step, input_passes, output_passes, prefix_passes, prefix_more_passes, input_settles, output_settles, prefix_settles}
 use Rattle.norm_settings.proofs.Rows.{found, Agrees, agrees_added, settled_use, values_other, without_other, apart, Fresh, fresh_use, values_here, values_new, values_more}
 
--- The walk over a whole line: it is accepted, and at its end each option has the value that the line gives it.
+-- The walk over a whole line: it is accepted, and at its end each option has the value that the
+-- line gives it.
 
 -- the pending value is accepted
 abbrev pub Settles : List Row → Option (Text × List Text) → Type 0
@@ -170,7 +172,8 @@ alone_use k n rows e = cc
 abbrev Good : List Text → Type 0
 Good line = (nat_le 3 (length line) ≡ true) × (list_all is_name line ≡ true)
 
--- after these uses: the pending value is accepted, each option has the value that they give it, and no name is found yet
+-- after these uses: the pending value is accepted, each option has the value that they give it, and
+-- no name is found yet
 abbrev Ready : List Row → Option (Text × List Text) → List PlainUse → Type 0
 Ready rows p uses = Settles rows p × Agrees uses (settled_rows run_rules p rows) × Fresh (settled_rows run_rules p rows)
 

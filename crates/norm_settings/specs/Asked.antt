@@ -33,7 +33,8 @@ abbrev pub plain_command : Command → PlainCommand
 plain_command (Run names settings) = run (plain_names names) (plain_settings settings)
 plain_command (Load seed count) = load seed count
 
--- the prefixes of words after those of `done`, or the position of the first malformed one, counted from 1
+-- the prefixes of words after those of `done`, or the position of the first malformed one, counted
+-- from 1
 abbrev pub prefixes_from : List wire.Prefix → List Text → Result (List wire.Prefix) ℕ
 prefixes_from done [] = Ok done
 prefixes_from done (word ∷ words) =
@@ -43,7 +44,8 @@ prefixes_from done (word ∷ words) =
 abbrev pub go_together : List PlainUse → Bool
 go_together uses = not (is_some (given Both uses) && (is_some (given Inside uses) || is_some (given Mtu uses)))
 
--- at least three names, none of them empty and none beginning with `-`, after options that do not conflict
+-- at least three names, none of them empty and none beginning with `-`, after options that do not
+-- conflict
 abbrev pub is_whole : PlainLine → Bool
 is_whole line = nat_le 3 (length line.names) && list_all is_name line.names && go_together line.uses
 
@@ -52,7 +54,8 @@ abbrev pub run_by : PlainNames → List PlainUse → Result (List wire.Prefix) �
 run_by names uses (Ok prefixes) = Ok (run names (settings_of (λ choice. given choice uses) prefixes))
 run_by names uses (Err place) = Err (Prefix place)
 
--- the run of a line, or its first fault: both file names are the same, more than 16 prefixes, a malformed prefix
+-- the run of a line, or its first fault: both file names are the same, more than 16 prefixes, a
+-- malformed prefix
 abbrev pub run_of : PlainLine → Result PlainCommand WordFault
 run_of line =
     elim line.names [

@@ -62,11 +62,13 @@ output_rule = new_rule (codes "out")
 abbrev pub prefix_rule : Rule
 prefix_rule = record (new_rule (codes "prefix")) { action = Some Append }
 
--- the clap command without arguments: no program name before the words, no help option, and a repeated option overrides the one before
+-- the clap command without arguments: no program name before the words, no help option, and a
+-- repeated option overrides the one before
 abbrev pub bare : App
 bare = on_top (λ s. record s { no_binary_name = true; disable_help_flag = true; args_override_self = true }) (new_app (codes "norm"))
 
--- the clap command for the words of a run, before it is built: an argument for each option, and then the names
+-- the clap command for the words of a run, before it is built: an argument for each option, and
+-- then the names
 abbrev pub run_command : App
 run_command = with_rule (with_rule (with_rule (fold with_rule bare (map rule_for all_choices)) input_rule) output_rule) prefix_rule
 

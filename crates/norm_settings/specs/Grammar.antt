@@ -19,8 +19,8 @@ abbrev pub BeginPlain : List Text → Type 0
 BeginPlain [] = Unit {0}
 BeginPlain (name ∷ _) = begins_with_dash name ≡ false
 
--- the words are written as this line: its uses and then its names, each option is used once and with a value that fits, and the first name does not begin with
--- `-`
+-- the words are written as this line: its uses and then its names, each option is used once and
+-- with a value that fits, and the first name does not begin with `-`
 pub record IsWrittenAs (words : List Text) (line : PlainLine) : Type 0 where
   pub written : IsLine line.uses words line.names
   pub fits : are_fit [] line.uses ≡ true

@@ -1,4 +1,5 @@
--- The words of a run (this project's profile): options, and then the names. A word is the list of its octets.
+-- The words of a run (this project's profile): options, and then the names. A word is the list of
+-- its octets.
 use Rattle.std.specs.Prelude.{◌==◌, ◌&&◌, not, Bool, true, false, List, [], ◌∷◌, ◌++◌, map, Option, Some, None, is_some, option_map, codes, string_bytes, if◌then◌else◌}
 use Rattle.std.specs.Str.{bytes_eq}
 use Rattle.norm_settings.specs.Options.{Text, name_of, kind_of, all_choices, takes_value, is_value}
@@ -8,7 +9,8 @@ use Rattle.norm_settings.specs.declared.line.Line.{Line}
 use Rattle.norm_settings.specs.declared.line.Met.{Met}
 use Rattle.norm_settings.specs.declared.line.Met.TheVariants.{Names, Alone, Joined, Parted, Unknown}
 
--- the kind of a word before IN: the first of the names; an option without a value, with its value, or with its value in the next word; or unknown
+-- the kind of a word before IN: the first of the names; an option without a value, with its value,
+-- or with its value in the next word; or unknown
 pub data Word : Type 0 where
   names : Word
   alone : Choice → Word
@@ -40,7 +42,7 @@ word_by choice (Some (x ∷ value)) = if x == 61 && takes_value (kind_of choice)
 abbrev pub word_as : Choice → Text → Option Word
 word_as choice text = word_by choice (after_front (name_of choice) text)
 
--- the first of the options of which the text after `--` is a use
+-- the first option that the text after `--` uses
 abbrev pub word_in : List Choice → Text → Word
 word_in [] text = unknown
 word_in (choice ∷ choices) text = elim (word_as choice text) [ Some word ↦ word | None ↦ word_in choices text ]
@@ -55,7 +57,8 @@ abbrev pub option_in : Option Text → Word
 option_in None = unknown
 option_in (Some text) = word_in all_choices text
 
--- the kind of a word before IN: an option or unknown if it begins with `-`, else the first of the names
+-- the kind of a word before IN: an option or unknown if it begins with `-`, else the first of the
+-- names
 abbrev pub word_of : Text → Word
 word_of text = if begins_with_dash text then option_in (after_front (codes "--") text) else names
 
@@ -73,7 +76,8 @@ abbrev pub given : Choice → List PlainUse → Option Text
 given choice [] = None
 given choice (u ∷ uses) = if bytes_eq (name_of u.choice) (name_of choice) then Some u.value else given choice uses
 
--- the option may be used with this value after these uses: the value fits, and the option was not used before
+-- the option may be used with this value after these uses: the value fits, and the option was not
+-- used before
 abbrev pub may_use : Choice → Text → List PlainUse → Bool
 may_use choice value uses = is_value (kind_of choice) value && not (is_some (given choice uses))
 
@@ -95,8 +99,9 @@ next_word None text = word_of text
 abbrev pub with_use : Choice → Text → Option PlainLine → Option PlainLine
 with_use choice value = option_map (λ line. record { uses = record { choice = choice; value = value } ∷ line.uses; names = line.names })
 
--- the uses in the words, and the words from the first of the names on; the first argument is the option that waits for its value, if any. None if a word before
--- the names is no option, or the last option has no value
+-- the uses in the words, and the words from the first of the names on; the first argument is the
+-- option that waits for its value, if any. None if a word before the names is no option, or the
+-- last option has no value
 abbrev pub parts : Option Choice → List Text → Option PlainLine
 parts (Some choice) [] = None
 parts None [] = Some (record { uses = []; names = [] })
@@ -119,6 +124,7 @@ abbrev pub fit_line : Option PlainLine → Option PlainLine
 fit_line None = None
 fit_line (Some line) = if are_fit [] line.uses then Some line else None
 
--- the line that the words after `run` are; None unless each option is given at most once and its value fits
+-- the line that the words after `run` are; None unless each option is given at most once and its
+-- value fits
 abbrev pub line_of : List Text → Option PlainLine
 line_of words = fit_line (parts None words)

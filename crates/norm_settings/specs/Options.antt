@@ -1,4 +1,5 @@
--- The options of a run (this project's profile): one table, for the grammar, the clap command that parses the words, and the help text.
+-- The options of a run (this project's profile): one table, for the grammar, the clap command that
+-- parses the words, and the help text.
 use Rattle.std.specs.Prelude.{ℕ, ◌≤◌, ◌==◌, ◌&&◌, nat_le, Bool, true, false, List, [], ◌∷◌, length, Option, Some, None, is_some, codes, if◌then◌else◌}
 use Rattle.wire_base.specs.Prefixes.{is_number, number_of}
 use Rattle.wire_base.specs.declared.limits.TheConstants.{MAX_PACKET}
@@ -12,8 +13,8 @@ use Rattle.norm_settings.specs.declared.options.Kind.TheVariants.{Number, Limit,
 abbrev pub Text : Type 0
 Text = List ℕ
 
--- an entry of the table: the name of an option, without `--`, and the value that it takes: a number (least, greatest, default); a limit (least, greatest; no
--- limit if not given); a name; none
+-- an entry of the table: the name of an option, without `--`, and the value that it takes: a number
+-- (least, greatest, default); a limit (least, greatest; no limit if not given); a name; none
 pub record PlainRow : Type 0 where
   pub name : Text
   pub kind : Kind

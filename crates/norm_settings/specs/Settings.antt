@@ -89,8 +89,8 @@ settings_of found prefixes =
 abbrev pub standard : List Prefix → PlainSettings
 standard prefixes = settings_of (λ choice. None) prefixes
 
--- each number is in the range of its option, and each prefix has at most 32 bits; `hops` needs no lower bound, since the least value of its option is 0, and a
--- seed may be any number
+-- Each number is in the range of its option, and each prefix has at most 32 bits. `hops` needs no
+-- lower bound, since the least value of its option is 0, and a seed may be any number.
 pub record AreInRange (s : PlainSettings) : Type 0 where
   pub prefixes : All (λ prefix. prefix.len ≤ 32) s.prefixes
   pub hops : s.hops ≤ greatest_of (kind_of Hops)
@@ -103,8 +103,8 @@ pub record AreInRange (s : PlainSettings) : Type 0 where
   pub quota : IfSome s.quota (IsInRange (kind_of Quota))
   pub mtu : IfSome s.mtu (IsInRange (kind_of Mtu))
 
--- The settings do not conflict: with `both` they do not exchange sides (the second engine has settings of its own), and have neither an inside interface nor a
--- maximum packet length.
+-- The settings do not conflict: with `both` they do not exchange sides (the second engine has its
+-- own settings), and have neither an inside interface nor a maximum packet length.
 pub record GoTogether (s : PlainSettings) : Type 0 where
   pub mirror : s.both ≡ true → s.mirror ≡ false
   pub inside : s.both ≡ true → s.inside ≡ None

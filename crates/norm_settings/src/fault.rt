@@ -6,13 +6,14 @@ ghost use Rattle.norm_settings.specs.declared.fault.WordFault.TheVariants.{NoMem
 use std::alloc::AllocError;
 use thiserror::Error;
 
-/// Reasons why words are not a command.
+/// Reasons why words are not a command. Tested in the order `Refused`, `Same`, `TooMany`, `Prefix`;
+/// numbers are from 1 to 5. `NoMemory` (4) is in no line of a report.
 #[derive(Clone, Copy, Debug, PartialEq, Eq, Error)]
 pub enum WordFault {
-    /// Words of another form than `run OPTION* IN OUT PREFIX+` and `load SEED COUNT`: an option
+    /// Words of a form other than `run OPTION* IN OUT PREFIX+` and `load SEED COUNT`: an option
     /// that is unknown, is given twice, has no value or one that does not fit, or conflicts with
-    /// another; a name that is empty or begins with `-`; or a seed or count that is not a number or
-    /// is out of its range.
+    /// another. Also a name that is empty or begins with `-`, or a seed or count that is not a
+    /// number or is out of its range.
     #[error("not the words `run [OPTION..] IN OUT PREFIX..` or `load SEED COUNT`")]
     Refused,
     /// The prefix at this position, counted from 1, is malformed.

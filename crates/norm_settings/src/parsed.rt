@@ -33,7 +33,7 @@ pub fn run_matches<'a>(alloc: Global, words: &'a [String]) -> Result<ArgMatches<
 pub(crate) fn load_matches<'a>(alloc: Global, words: &'a [String]) -> Result<ArgMatches<'a>, Error>
     // Of two names, clap finds both.
     ensures ok { IfOk result (λ matches. is_pair (map string_bytes words.entry.now) ≡ true → spec.ReadsPair matches (map string_bytes words.entry.now)) }
-    // Two names are refused only if memory could not be allocated.
+    // It refuses a line of two names only if memory could not be allocated.
     ensures err { IfErr result (λ error. is_pair (map string_bytes words.entry.now) ≡ true → kind_of error ≡ ErrorKind.OutOfMemory) }
 {
     match load_command(alloc) {

@@ -7,7 +7,7 @@ use crate::Settings;
 use wire_base::{Addr, Prefix, Side};
 
 /// Returns the side of a packet from `src` to `dst` whose record has no side: outward if only `src`
-/// is trusted, inward if only `dst` is.
+/// is trusted, inward if only `dst` is. None if both are trusted, or neither.
 pub fn side_of(settings: &Settings, src: Addr, dst: Addr) -> Option<Side>
     requires { All (λ prefix. prefix.len ≤ 32) settings.now.prefixes.items }
     ensures { result ≡ side (plain_settings settings.now) None src.0 dst.0 }

@@ -12,7 +12,8 @@ use Rattle.pcap_file.specs.Capture.{ReadsTo, FailsBehindHead, offset_of, EndsWel
 use Rattle.pcap_file.specs.Laws.{CaptureIsOne, FlawIsOne, FlawExcludesEnd, EachFileEnds}
 use Rattle.pcap_file.proofs.Records.{front_short, front_sized, sized_long, sized_many, sized_cut, sized_record}
 
--- Octets have at most one head, one list of records and one end, which is that of a capture or a first flaw.
+-- Octets have at most one head, one list of records and one end, which is that of a capture or a
+-- first flaw.
 
 -- two lists of equally many records are the same, and leave the same octets
 pub same_records : (order : Order) (all : List ℕ) (ps qs : List Packet) (r s : List ℕ) → ReadsTo order all ps r → ReadsTo order all qs s → length ps ≡ length qs → (ps ≡ qs) × (r ≡ s)
@@ -167,7 +168,8 @@ front_cases order count x =
       ]
     ]
 
--- behind these records the octets end well or badly; each further record takes some of them, so the fuel suffices
+-- after these records the octets end without a flaw or with one; each further record takes some of
+-- them, so the fuel suffices
 ends_from : (fuel : ℕ) (octets : List ℕ) (head : Head) (packets : List Packet) (rest : List ℕ) → head_of octets ≡ Ok head
     → ReadsTo head.order (drop 24 octets) packets rest → length rest ≤ fuel → EndsWell octets ⊎ EndsBadly octets
 ends_from zero octets head packets rest accepted reads enough =

@@ -1,4 +1,5 @@
--- What octets begin with, a file's head or a record: they are found in what was read, and read back from what was written.
+-- What octets begin with, a file's head or a record: they are found in what was read, and read back
+-- from what was written.
 use Rattle.std.proofs.Common.{◌≡◌, ◌≢◌, ℕ, ◌+◌, ◌*◌, ◌<◌, ◌≤◌, List, [], ◌++◌, length, take, drop, slice_index, Some, None, Ok, Err, sym, ap, ◌∙◌, subst, arith, append_assoc, add-zero, Bool, refl, ◌^◌, true, false, Option, Result}
 use Rattle.std.proofs.lemmas.List.{take_all, take_at, drop_at, length-append, length-take-le, get_or_append_left, drop_all}
 use Rattle.std.proofs.lemmas.Bool.Decides.{nat_tests}
@@ -48,7 +49,7 @@ u32_at_front Big h y k fits =
 pub whole : (a b : Option (List ℕ)) (h : List ℕ) (n : ℕ) → length h ≤ n → Consumes a b (take n h) → Consumes a b h
 whole a b h n enough p = subst (Consumes a b) (take_all n h enough) p
 
--- all octets left, if the end is behind the first n
+-- all octets left, if the end is after the first n
 pub length_to_end : (x y h : List ℕ) (n : ℕ) → n ≤ length h → x ≡ take n h ++ y → y ≡ [] → length x ≡ n
 length_to_end x y h n fits split end =
     ap length split ∙ length-append (take n h) y ∙ ap (λ k. k + length y) (length-take-le n h fits) ∙ ap (λ l. n + length l) end ∙ add-zero n
@@ -194,7 +195,7 @@ judged a b h (Err faults.Version) size p says = begins a b h _ size p says
 judged a b h (Err faults.Link) size p says = begins a b h _ size p says
 judged a b h (Err faults.ReadFault) size p says = absurd says
 
--- What is written is read back.
+-- A written record is read back.
 
 pub head_size : (order : Order) (nano : Bool) (link : Link) → length (head_octets (record { order = order; nano = nano; link = link })) ≡ 24
 unfolding head_octets

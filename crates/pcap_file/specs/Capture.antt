@@ -1,4 +1,5 @@
--- A capture file as a whole (classic pcap): a head, a list of records, and the end or a first flaw at an offset.
+-- A capture file as a whole (classic pcap): a head, a list of records, and the end or a first flaw
+-- at an offset.
 use Rattle.std.specs.Prelude.{◌≡◌, ◌⊎◌, ℕ, ◌+◌, List, [], ◌∷◌, length, drop, Some, Ok, Err}
 use Rattle.pcap_file.specs.declared.order.Order.{Order}
 use Rattle.pcap_file.specs.declared.head.Head.{Head}
@@ -17,7 +18,7 @@ abbrev pub size_of : List Packet → ℕ
 size_of [] = 0
 size_of (packet ∷ older) = size_of older + 16 + length packet.octets
 
--- the offset behind these records, in octets from the start of the file
+-- the offset after these records, in octets from the start of the file
 abbrev pub offset_of : List Packet → ℕ
 offset_of packets = 24 + size_of packets
 
@@ -26,7 +27,8 @@ pub record IsCapture (octets : List ℕ) (head : Head) (packets : List Packet) :
   pub accepted : head_of octets ≡ Ok head
   pub whole : ReadsTo head.order (drop 24 octets) packets []
 
--- The octets are an accepted head, some records and then, at this offset, octets whose first flaw is this one.
+-- The octets are an accepted head, some records and then, at this offset, octets whose first flaw
+-- is this one.
 pub record FailsBehindHead (octets : List ℕ) (flaw : Flaw) (offset : ℕ) : Type 0 where
   pub head : Head
   pub packets : List Packet
@@ -36,7 +38,8 @@ pub record FailsBehindHead (octets : List ℕ) (flaw : Flaw) (offset : ℕ) : Ty
   pub flawed : front_of head.order (length packets) rest ≡ Err flaw
   pub place : offset ≡ offset_of packets
 
--- The octets have this first flaw, at this offset: 0 for a flaw of the head, else the offset of the record.
+-- The octets have this first flaw, at this offset: 0 for a flaw of the head, else the offset of the
+-- record.
 abbrev pub FailsAt : List ℕ → Flaw → (offset : ℕ) → Type 0
 FailsAt octets flaw offset = ((head_of octets ≡ Err flaw) × (offset ≡ 0)) ⊎ FailsBehindHead octets flaw offset
 

@@ -1,5 +1,5 @@
--- The head of a capture file (classic pcap): 24 octets with magic, version 2.4, zone, accuracy, snap length and network.
--- Zone, accuracy and snap length are ignored.
+-- The head of a capture file (classic pcap): 24 octets with magic, version 2.4, zone, accuracy,
+-- snap length and network. Zone, accuracy and snap length are ignored.
 use Rattle.std.specs.Prelude.{ℕ, ◌==◌, ◌&&◌, nat_lt, Bool, true, false, List, ◌++◌, length, replicate, Option, Some, None, Result, Ok, Err, if◌then◌else◌}
 use Rattle.wire_base.specs.declared.address.Link.{Link}
 use Rattle.wire_base.specs.declared.address.Link.TheVariants.{Ethernet, Raw}
@@ -54,7 +54,8 @@ abbrev pub head_by : Option (Order × Bool) → List ℕ → Result Head Flaw
 head_by (Some form) octets = head_in form.0 form.1 octets
 head_by None octets = Err bad_magic
 
--- The head that octets begin with, or its first flaw: fewer than 24 octets are cut short, whatever their values.
+-- The head that octets begin with, or its first flaw: fewer than 24 octets are cut short, whatever
+-- their values.
 unfoldable pub head_of : List ℕ → Result Head Flaw
 head_of octets = if nat_lt (length octets) 24 then Err cut_short else head_by (form_of octets) octets
 

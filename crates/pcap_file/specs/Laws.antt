@@ -8,11 +8,13 @@ use Rattle.pcap_file.specs.Records.{Packet, front_of, record_octets}
 use Rattle.pcap_file.specs.Capture.{IsCapture, FailsAt, EndsWell, EndsBadly}
 use Rattle.wire_base.specs.declared.limits.TheConstants.{MAX_CAPTURED}
 
--- A written head is read as that head, in both orders and units and for both links, whatever octets follow.
+-- A written head is read as that head, in both orders and units and for both links, whatever octets
+-- follow.
 abbrev pub HeadIsReadBack : Type 0
 HeadIsReadBack = (head : Head) (rest : List ℕ) → head_of (head_octets head ++ rest) ≡ Ok head
 
--- A written record is read as that record, with its own length as the original one and no side, whatever octets follow.
+-- A written record is read as that record, with its own length as the original one and no side,
+-- whatever octets follow.
 abbrev pub RecordIsReadBack : Type 0
 RecordIsReadBack =
     (order : Order) (count seconds fraction : ℕ) (octets rest : List ℕ) → count < 4294967295 → seconds < 2 ^ 32 → fraction < 2 ^ 32 → length octets ≤ MAX_CAPTURED

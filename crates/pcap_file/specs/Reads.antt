@@ -1,4 +1,5 @@
--- What reading the next record does to the known octets of a source. None means that it has no known octets; then nothing is claimed of them.
+-- What reading the next record does to the known octets of a source. None means that it has no
+-- known octets; then nothing is claimed of them.
 use Rattle.std.specs.Prelude.{◌≡◌, ℕ, ◌+◌, ◌^◌, ◌<◌, ◌≤◌, List, [], length, Option, Some, None, Result, Ok, Err, Bool, true, false}
 use Rattle.std.specs.Io.KnownBytes.{Consumes}
 use Rattle.pcap_file.specs.declared.order.Order.{Order}
@@ -31,7 +32,8 @@ abbrev pub HasFlaw : Order → (count : ℕ) → Option (List ℕ) → Flaw → 
 HasFlaw order count None flaw = Unit {0}
 HasFlaw order count (Some xs) flaw = front_of order count xs ≡ Err flaw
 
--- Octets of at most one record were taken: its head of 16, and the number of octets that the head gives as captured length.
+-- Octets of at most one record were taken: its head of 16, and the number of octets that the head
+-- gives as captured length.
 pub record TakesAtMost (order : Order) (old new : Option (List ℕ)) : Type 0 where
   pub octets : List ℕ
   pub taken : Consumes old new octets
@@ -87,14 +89,14 @@ IfNoRecord (Ok (Some r)) P = Unit {0}
 IfNoRecord (Ok None) P = P
 IfNoRecord (Err fault) P = P
 
--- The reader is behind one more record, of this captured length.
+-- The reader has read one more record, of this captured length.
 pub record Advances (old new : Reading) (size : ℕ) : Type 0 where
   pub given : new.given ≡ old.given + 1
   pub place : new.place ≡ old.place + 16 + size
   pub small : size ≤ MAX_CAPTURED
   pub few : new.given < 2 ^ 32
 
--- The reader is behind the same records.
+-- The reader has read the same records.
 pub record Stays (old new : Reading) : Type 0 where
   pub given : new.given ≡ old.given
   pub place : new.place ≡ old.place

@@ -1,4 +1,5 @@
--- What reading the head does to the known octets of a source. None means that it has no known octets; then nothing is claimed of them.
+-- What reading the head does to the known octets of a source. None means that it has no known
+-- octets; then nothing is claimed of them.
 use Rattle.std.specs.Prelude.{◌≡◌, ℕ, List, drop, Option, Some, None, Result, Ok, Err}
 use Rattle.edge_io.specs.Octets.{TakesFewer}
 use Rattle.pcap_file.specs.declared.head.Head.{Head}
@@ -7,7 +8,8 @@ use Rattle.pcap_file.specs.declared.head.HeadFault.TheVariants as faults
 use Rattle.pcap_file.specs.Flaws.{Flaw, cut_short, bad_magic, bad_version, bad_link}
 use Rattle.pcap_file.specs.Heads.{head_of}
 
--- the octets left begin with this head or have this flaw, and the first 24 of them were taken, or all if they are fewer
+-- the octets left begin with this head or have this flaw, and the first 24 of them were taken, or
+-- all if they are fewer
 abbrev pub Begins : Option (List ℕ) → Option (List ℕ) → Result Head Flaw → Type 0
 Begins None new verdict = Unit {0}
 Begins (Some xs) None verdict = ⊥

@@ -9,7 +9,8 @@ use edge_io::{Failed, Source, read_full};
 use thiserror::Error;
 use wire_base::Link;
 
-/// The format of a capture file: its byte order, the unit of the fraction of a second, and the link of its frames.
+/// The format of a capture file: its byte order, the unit of the fraction of a second, and the link
+/// of its frames.
 #[derive(Clone, Copy, Debug, PartialEq, Eq)]
 pub struct Head {
     pub order: Order,
@@ -18,7 +19,9 @@ pub struct Head {
     pub link: Link,
 }
 
-/// The reason why no head was read. The variants are in the order of testing.
+/// The reason why no head was read. The variants are in the order of testing. `Cut`: fewer than 24
+/// octets are left. `Magic`: neither 0xa1b2c3d4 nor 0xa1b23c4d in either byte order. `Version`: not
+/// 2.4. `Link`: a network other than 1 and 101. `ReadFault`: the source failed.
 #[derive(Clone, Copy, Debug, PartialEq, Eq, Error)]
 pub enum HeadFault {
     #[error("fewer than 24 octets")]
@@ -104,7 +107,8 @@ fn judge(octets: &[u8]) -> Result<Head, HeadFault>
     Ok(Head { order, nano, link })
 }
 
-/// Reads the head. Zone, accuracy and snap length are ignored.
+/// Reads the head. Zone, accuracy and snap length are ignored. Takes 24 octets; `Cut` takes all
+/// that are left, `ReadFault` fewer than 24.
 pub fn read_head<S: Source>(source: &mut S) -> Result<Head, HeadFault>
     ensures octets { ReadsHead (S.left source.old) (S.left source.new) result }
     ensures later { S.fault_count source.old ≤ S.fault_count source.new }

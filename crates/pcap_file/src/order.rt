@@ -48,7 +48,8 @@ impl Order {
     pub(crate) fn u32_octets(self, number: u32) -> [u8; 4]
         ensures { result ≡ numbers.u32_octets self number }
     {
-        // The match chooses between numbers and not between arrays, so that the octets are one store.
+        // The match chooses between numbers and not between arrays, so that the octets are one
+        // store.
         let stored = match self {
             Order::Little => number,
             Order::Big => number.swap_bytes(),

@@ -10,7 +10,10 @@ use std::marker::Model;
 use thiserror::Error;
 use wire_base::MAX_CAPTURED;
 
-/// The reason why no record was read. The variants are in the order of testing.
+/// The reason why no record was read. The head of the record is tested first. `Cut`: from 1 to 15
+/// octets are left, or fewer than the captured length after the record's head. `Long`: the captured
+/// length is above 262,144 octets. `TooMany`: 2^32 - 1 records were returned before. `ReadFault`:
+/// the source failed.
 #[derive(Clone, Copy, Debug, PartialEq, Eq, Error)]
 pub enum RecordFault {
     #[error("the octets end inside the record")]
@@ -77,7 +80,8 @@ impl Reader {
         self.going
     }
 
-    /// Returns the offset of the record that the last call of `next` asked for, in octets from the start of the file.
+    /// Returns the offset of the record that the last call of `next` asked for, in octets from the
+    /// start of the file.
     pub fn offset(&self) -> u64
         ensures { result ≡ self.now.asked }
     {
@@ -92,6 +96,8 @@ impl Reader {
     }
 
     /// Reads the next record, with its octets in the buffer. Returns None at the end of the file.
+    /// After a record exactly its octets were taken; None takes none, and an error at most those of
+    /// this record. After None or an error the reader is closed.
     pub fn next<'a, S: Source>(
         &mut self,
         source: &mut S,

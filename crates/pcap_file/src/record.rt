@@ -14,7 +14,7 @@ pub struct Record<'a> {
     pub original: u32,
     /// Offset of the record, in octets from the start of the file.
     pub offset: u64,
-    /// The captured octets, at most 262,144.
+    /// The captured octets, at most 262,144 if a reader made the record.
     pub bytes: &'a [u8],
     /// The direction of the packet, if its capture names one; a classic capture file never does.
     pub side: Option<Side>,

@@ -12,7 +12,7 @@ use edge_io::{Failed, Sink};
 use thiserror::Error;
 use wire_base::{Link, MAX_CAPTURED};
 
-/// A failure of the sink.
+/// A failure of the sink. A prefix of the octets was appended.
 #[derive(Clone, Copy, Debug, PartialEq, Eq, Error)]
 #[error("the sink failed")]
 pub struct WriteFault;
@@ -69,7 +69,8 @@ pub fn write_head<K: Sink>(sink: &mut K, head: &Head) -> Result<(), WriteFault>
     Ok(())
 }
 
-/// Writes a record of these octets. Its captured and its original length are their number.
+/// Writes a record of these octets. Its captured and its original length are their number. The time
+/// is written as it is given.
 #[inline(always)]
 pub fn write_record<K: Sink>(
     sink: &mut K,

@@ -1,4 +1,5 @@
--- What several reads take, one after the other: octets, and blocks up to a record or the first interface.
+-- What several reads take, one after the other: octets, and blocks up to a record or the first
+-- interface.
 use Rattle.std.proofs.Common.{◌≡◌, ℕ, ◌+◌, ◌-◌, ◌<◌, ◌≤◌, List, [], ◌++◌, length, take, drop, Some, None, refl, sym, ap, ap₂, ◌∙◌, subst, arith, append_assoc, append-nil, take-append-drop, length-drop, true, false, ◌∷◌, IsSome, Ok, Err, Option}
 use Rattle.std.proofs.lemmas.List.{length-append, length-take-le, take_all, take_at, drop_at, drop_all}
 use Rattle.std.proofs.Math.Seq.{take-append-add}
@@ -304,7 +305,8 @@ ends_at_interface : (steps : List Step) → UnlinkedBefore steps → IsSome (beh
 ends_at_interface [] before linked = absurd cc
 ends_at_interface (step ∷ older) before linked = (before, linked)
 
--- The file was read up to here: its blocks have no record, and those before the newest one no interface.
+-- The file was read up to here: its blocks have no record, and those before the newest one no
+-- interface.
 pub record OpensSoFar (inside : Option (List ℕ)) (now : NgReading) (a b : Option (List ℕ)) : Type 0 where
   pub so_far : Between (first_reading inside) now a b
   pub unlinked : IsUnlinked now.sections.link now.sections.interfaces

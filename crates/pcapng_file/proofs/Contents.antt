@@ -1,4 +1,4 @@
--- The content of a block: where it stands, and that the fixed fields alone give it.
+-- The content of a block: where it is, and that the fixed fields alone give it.
 use Rattle.std.proofs.Common.{◌≡◌, ℕ, ◌<◌, ◌≤◌, ◌+◌, true, length, ◌*◌, ◌/◌, ◌%◌, ◌==◌, ◌^◌, not, nat_lt, Bool, false, List, ◌++◌, slice_get, Some, None, refl, sym, ap, ◌∙◌, arith, inl, inr, if◌then◌else◌, Option}
 use Rattle.std.proofs.lemmas.Bool.{cases_lt, cases_Bool, ltb-false, ltb-true, not-false, lt-ltb, le-ltb}
 use Rattle.std.proofs.lemmas.Bool.Decides.{nat_tests}
@@ -20,14 +20,16 @@ use Rattle.pcapng_file.specs.Blocks.{bare}
 
 -- Where the content of a block is.
 
--- The captured octets of a packet block are after the fixed fields and within the block, at most 262,144, and the section has an interface.
+-- The captured octets of a packet block are after the fixed fields and within the block, at most
+-- 262,144, and the section has an interface.
 pub record PacketPlaced (stamp : Stamp) (sections : Sections) (kind size : ℕ) : Type 0 where
   pub place : stamp.place ≡ 12 + more_of kind size
   pub within : stamp.place + stamp.size + 4 ≤ size
   pub small : stamp.size ≤ 262144
   pub some : 0 < length sections.interfaces
 
--- The options of an interface are after 16 octets, the section has room for one more interface, and its link may follow the first one.
+-- The options of an interface are after 16 octets, the section has room for one more interface, and
+-- its link may follow the first one.
 pub record InterfacePlaced (sections : Sections) (link : Link) (kind size : ℕ) : Type 0 where
   pub same : is_link sections.link link ≡ true
   pub more : more_of kind size ≡ 4

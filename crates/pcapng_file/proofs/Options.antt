@@ -69,7 +69,8 @@ one_option order area e fits =
     enough (length area) (suc (length area)) order area (omega arith) (omega arith) ∙ goes_on (length area) order area e fits
     ∙ ap (option_map (λ entries. entry_at order area ∷ entries)) (enough (length area) (length rest) order rest shorter (omega arith))
 
--- the interface described by the facts read so far and the options not yet read; None if either is malformed
+-- the interface described by the facts read so far and the options not yet read; None if either is
+-- malformed
 abbrev pub result_by : (inside : Option (List ℕ)) → (snap : ℕ) → Option Seen → Option (List Entry) → Option Interface
 result_by inside snap None options = None
 result_by inside snap (Some seen) options = described_by inside snap seen options

@@ -201,7 +201,7 @@ module _ (inside : Option (List ℕ)) (s : Sections) (x : List ℕ) where
     nothing None e none = inr (inl (record { fault = faults.Cut; flawed = ap (block_at inside s) none ∙ at_nothing inside s ∙ ap end_by e }))
     nothing (Some link) e none = inl (none, at_nothing inside s ∙ ap end_by e)
 
--- after these blocks the octets end well or badly
+-- after these blocks the octets end without a fault or with one
 ends_from : (most : ℕ) (inside : Option (List ℕ)) (octets : List ℕ) (steps : List Step) (rest : List ℕ) → Walks inside no_section octets steps rest → length rest < most
     → EndsWell inside octets ⊎ EndsBadly inside octets
 ends_from zero inside octets steps rest walks enough = absurd (omega arith)

@@ -1,4 +1,5 @@
--- The block at the front of the octets (pcapng): its type, its size, its content, and its size again.
+-- The block at the front of the octets (pcapng): its type, its size, its content, and its size
+-- again.
 use Rattle.std.specs.Prelude.{ℕ, ◌≡◌, true, ◌-◌, ◌%◌, ◌==◌, ◌&&◌, not, nat_lt, Bool, List, [], ◌∷◌, ◌++◌, length, take, drop, Option, Some, None, Result, Ok, Err, if◌then◌else◌}
 use Rattle.wire_base.specs.declared.address.Link.{Link}
 use Rattle.pcap_file.specs.declared.order.Order.{Order}
@@ -14,13 +15,15 @@ use Rattle.pcapng_file.specs.declared.content.Found.TheVariants as is
 use Rattle.pcapng_file.specs.Standing.{Sections, counted}
 use Rattle.pcapng_file.specs.Contents.{section_type, interface_type, enhanced_type, simple_type, old_packet_type, content_of, found_of}
 
--- One block: the state of the file after it, its record if it is a packet block, and its number of octets.
+-- One block: the state of the file after it, its record if it is a packet block, and its number of
+-- octets.
 pub record Step : Type 0 where
   pub after : Sections
   pub given : Option Packet
   pub size : ℕ
 
--- the record with these fields and octets: its fraction is in nanoseconds, its side is that of its interface
+-- the record with these fields and octets: its fraction is in nanoseconds, its side is that of its
+-- interface
 abbrev pub packet_of : Stamp → List ℕ → Packet
 packet_of stamp octets =
     record { seconds = stamp.seconds; fraction = stamp.fraction; original = stamp.original; side = stamp.side; octets = octets }
@@ -87,7 +90,8 @@ before rest (Err fault) = Err fault
 abbrev pub is_size : ℕ → Bool
 is_size size = not (nat_lt size 12) && (size % 4 == 0)
 
--- the block of this size at the front, or its fault: a size that no block has, too few octets, another size at its end, or one of its content
+-- the block of this size at the front, or its fault: a size that no block has, too few octets,
+-- another size at its end, or one of its content
 abbrev pub sized_at : (inside : Option (List ℕ)) → Sections → Order → List ℕ → (size : ℕ) → Result (Option (Step × List ℕ)) NgFault
 sized_at inside sections order octets size =
     if not (is_size size) then Err faults.Block
@@ -102,7 +106,8 @@ order_by_magic octets =
     else if u32_at Big octets 8 == 0x1a2b3c4d then Some Big
     else None
 
--- the byte order of the block at the front: that of its section, or its own if it begins one; the section type reads alike in both orders
+-- the byte order of the block at the front: that of its section, or its own if it begins one; the
+-- section type reads alike in both orders
 abbrev pub order_at : Option Order → List ℕ → Option Order
 order_at order octets = if u32_at Little octets 0 == section_type then order_by_magic octets else order
 
@@ -134,7 +139,8 @@ abbrev pub end_by : Option Link → Result (Option (Step × List ℕ)) NgFault
 end_by None = Err faults.Cut
 end_by (Some link) = Ok None
 
--- The front of the octets in this state of the file: the end, a fault, or a block and the octets after it.
+-- The front of the octets in this state of the file: the end, a fault, or a block and the octets
+-- after it.
 unfoldable pub block_at : (inside : Option (List ℕ)) → Sections → List ℕ → Result (Option (Step × List ℕ)) NgFault
 block_at inside sections octets =
     if length octets == 0 then end_by sections.link

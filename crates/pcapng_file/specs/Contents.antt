@@ -34,7 +34,8 @@ simple_type = 3
 abbrev pub enhanced_type : ℕ
 enhanced_type = 6
 
--- a section block: the byte-order magic, the major version, which must be 1, and the minor version, which is ignored
+-- a section block: the byte-order magic, the major version, which must be 1, and the minor version,
+-- which is ignored
 abbrev pub section_says : Order → (size : ℕ) → List ℕ → Content
 section_says order size block =
     if nat_lt size 28 then says.Fails faults.Block
@@ -63,7 +64,8 @@ interface_says sections order size block =
     if nat_lt size 20 then says.Fails faults.Block
     else linked_says sections (link_of (u16_at order block 8)) (u32_at order block 12)
 
--- the side of a record, if the name of the inside interface is given: outward from the interface of this name, inward from any other
+-- the side of a record, if the name of the inside interface is given: outward from the interface of
+-- this name, inward from any other
 abbrev pub side_by : (inside : Option (List ℕ)) → (named : Bool) → Option Side
 side_by None named = None
 side_by (Some name) true = Some Outward
@@ -100,17 +102,20 @@ enhanced_of inside (Some interface) order size block =
     else if nat_lt size (32 + padded (u32_at order block 20)) then says.Fails faults.Block
     else timed_says inside interface (u32_at order block 12 * 2 ^ 32 + u32_at order block 16) (u32_at order block 24) (u32_at order block 20)
 
--- an enhanced packet block: the interface, the time in two words, the more significant first, and the captured and the original length
+-- an enhanced packet block: the interface, the time in two words, the more significant first, and
+-- the captured and the original length
 abbrev pub enhanced_says : (inside : Option (List ℕ)) → Sections → Order → (size : ℕ) → List ℕ → Content
 enhanced_says inside sections order size block =
     if nat_lt size 32 then says.Fails faults.Block
     else enhanced_of inside (slice_get sections.interfaces (u32_at order block 8)) order size block
 
--- the captured length of a simple packet block: its original length, limited to the snap length if that is not 0
+-- the captured length of a simple packet block: its original length, limited to the snap length if
+-- that is not 0
 abbrev pub clipped : (snap original : ℕ) → ℕ
 clipped snap original = if snap == 0 then original else min original snap
 
--- a simple packet block of this captured length; its time is that of the record before; `named` says whether its interface is the inside one
+-- a simple packet block of this captured length; its time is that of the record before; `named`
+-- says whether its interface is the inside one
 abbrev pub simple_sized : (inside : Option (List ℕ)) → (named : Bool) → Sections → (size original captured : ℕ) → Content
 simple_sized inside named sections size original captured =
     if nat_lt MAX_CAPTURED captured then says.Fails faults.Long
@@ -136,7 +141,8 @@ simple_says inside sections order size block =
     if nat_lt size 16 then says.Fails faults.Block
     else simple_of inside (slice_get sections.interfaces 0) sections size (u32_at order block 8)
 
--- the number of octets of fixed fields after the first twelve octets of a block of this type and size
+-- the number of octets of fixed fields after the first twelve octets of a block of this type and
+-- size
 abbrev pub more_of : (kind size : ℕ) → ℕ
 more_of kind size =
     if kind == section_type then (if nat_lt size 28 then 0 else 4)
@@ -144,7 +150,8 @@ more_of kind size =
     else if kind == enhanced_type then (if nat_lt size 32 then 0 else 16)
     else 0
 
--- The content of a block of this type and size by its fixed fields. Blocks of other types are skipped.
+-- The content of a block of this type and size by its fixed fields. Blocks of other types are
+-- skipped.
 unfoldable pub content_of : (inside : Option (List ℕ)) → Sections → Order → (kind size : ℕ) → List ℕ → Content
 content_of inside sections order kind size block =
     if kind == section_type then section_says order size block
@@ -159,7 +166,8 @@ abbrev pub interface_found : Link → Option Interface → Found
 interface_found link None = is.Fails faults.Block
 interface_found link (Some interface) = is.Interface link interface
 
--- The content of a block with its options: those of an interface are between its 16 fixed octets and its last 4 octets.
+-- The content of a block with its options: those of an interface are between its 16 fixed octets
+-- and its last 4 octets.
 abbrev pub found_of : (inside : Option (List ℕ)) → Order → (size : ℕ) → List ℕ → Content → Found
 found_of inside order size block (says.Fails fault) = is.Fails fault
 found_of inside order size block says.Passed = is.Passed

@@ -1,4 +1,5 @@
--- The options of an interface block (pcapng): code and length of two octets each, then the value, padded to four octets.
+-- The options of an interface block (pcapng): code and length of two octets each, then the value,
+-- padded to four octets.
 use Rattle.std.specs.Prelude.{ℕ, zero, suc, ◌+◌, ◌*◌, ◌/◌, ◌==◌, ◌||◌, nat_lt, Bool, true, false, List, [], ◌∷◌, length, take, drop, Option, Some, None, option_map, if◌then◌else◌}
 use Rattle.std.specs.Str.{bytes_eq}
 use Rattle.pcap_file.specs.declared.order.Order.{Order}
@@ -26,7 +27,8 @@ entry_at order area = record { code = u16_at order area 0; value = take (u16_at 
 abbrev pub is_end : Order → List ℕ → Bool
 is_end order area = nat_lt (length area) 4 || (u16_at order area 0 == 0)
 
--- The options at the front of an area, at most `most`, up to code 0 or to the end; None if one reaches past the area.
+-- The options at the front of an area, at most `most`, up to code 0 or to the end; None if one
+-- reaches past the area.
 unfoldable pub options_in : (most : ℕ) → Order → List ℕ → Option (List Entry)
 options_in zero order area = Some []
 options_in (suc most) order area =
@@ -43,7 +45,8 @@ abbrev pub first_value : (code : ℕ) → List Entry → Option (List ℕ)
 first_value code [] = None
 first_value code (entry ∷ entries) = if entry.code == code then Some entry.value else first_value code entries
 
--- whether the value of the option for the unit of time means nanoseconds; None if it means neither these nor microseconds; without the option, false
+-- whether the value of the option for the unit of time means nanoseconds; None if it means neither
+-- these nor microseconds; without the option, false
 abbrev pub nano_of : Option (List ℕ) → Option Bool
 nano_of None = Some false
 nano_of (Some value) = if bytes_eq value (6 ∷ []) then Some false else if bytes_eq value (9 ∷ []) then Some true else None
@@ -59,7 +62,8 @@ abbrev pub with_unit : (snap : ℕ) → (named : Bool) → (nano : Option Bool) 
 with_unit snap named None = None
 with_unit snap named (Some nano) = Some (record { nano = nano; snap = snap; named = named })
 
--- The interface that options describe: the first one of code 2 is its name, the first one of code 9 its unit of time.
+-- The interface that options describe: the first one of code 2 is its name, the first one of code 9
+-- its unit of time.
 abbrev pub described : (inside : Option (List ℕ)) → (snap : ℕ) → Option (List Entry) → Option Interface
 described inside snap None = None
 described inside snap (Some entries) = with_unit snap (is_named inside (first_value 2 entries)) (nano_of (first_value 9 entries))

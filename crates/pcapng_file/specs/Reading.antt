@@ -7,7 +7,8 @@ use Rattle.pcap_file.specs.declared.head.Head.{Head}
 use Rattle.pcapng_file.specs.declared.interface.Interface.{Interface}
 use Rattle.pcapng_file.specs.Standing.{Sections, no_section}
 
--- The name of the inside interface, the state of the file, the offset of the next block and of the block read last, and whether the next record may be read.
+-- The name of the inside interface, the state of the file, the offset of the next block and of the
+-- block read last, and whether the next record may be read.
 pub record NgReading : Type 0 where
   pub inside : Option (List ℕ)
   pub sections : Sections
@@ -24,7 +25,8 @@ abbrev pub IsUnlinked : Option Link → List Interface → Type 0
 IsUnlinked None interfaces = interfaces ≡ []
 IsUnlinked (Some link) interfaces = Unit {0}
 
--- the head of a classic file for these records: least significant octet first, nanoseconds, the link of the first interface
+-- the head of a classic file for these records: least significant octet first, nanoseconds, the
+-- link of the first interface
 abbrev pub written_head : Option Link → Head
 written_head None = record { order = Little; nano = true; link = Raw }
 written_head (Some link) = record { order = Little; nano = true; link = link }

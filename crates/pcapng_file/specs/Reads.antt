@@ -1,4 +1,5 @@
--- The effect of reading a block, or the next record, on the known octets of a source (this project's profile).
+-- The effect of reading a block, or the next record, on the known octets of a source (this
+-- project's profile).
 use Rattle.std.specs.Prelude.{◌≡◌, ℕ, ◌+◌, ◌-◌, ◌<◌, ◌≤◌, max, Bool, true, false, List, [], ◌∷◌, ◌++◌, length, take, drop, Option, Some, None, Result, Ok, Err}
 use Rattle.std.specs.Io.KnownBytes.{Consumes, IsAtEnd}
 use Rattle.pcap_file.specs.declared.order.Order.{Order}
@@ -37,7 +38,8 @@ IsBody inside order says.Section octets buf found = found ≡ is.Section
 IsBody inside order (says.Interface link snap) octets buf found = found ≡ interface_found link (described inside snap (options_of order octets))
 IsBody inside order (says.Packet stamp) octets buf found = (found ≡ is.Packet stamp) × (take stamp.size octets ≡ take stamp.size buf)
 
--- the captured octets of a packet block fit into the `room` octets read of the block, and into the buffer
+-- the captured octets of a packet block fit into the `room` octets read of the block, and into the
+-- buffer
 abbrev pub HasRoom : Content → (room size : ℕ) → Type 0
 HasRoom (says.Packet stamp) room size = (stamp.size ≤ room) × (stamp.size ≤ size)
 HasRoom content room size = Unit {0}
@@ -132,7 +134,8 @@ pub record TakesSteps (inside : Option (List ℕ)) (sections : Sections) (old ne
   pub taken : Consumes old new octets
   pub walks : (rest : List ℕ) → Walks inside sections (octets ++ rest) steps rest
 
--- The reader moved past these blocks, the newest first; `asked` is the offset of the block read last.
+-- The reader moved past these blocks, the newest first; `asked` is the offset of the block read
+-- last.
 pub record Moves (old new : NgReading) (steps : List Step) (asked : ℕ) (is_open : Bool) : Type 0 where
   pub inside : new.inside ≡ old.inside
   pub sections : new.sections ≡ behind old.sections steps
@@ -179,7 +182,8 @@ pub record LooksOn (old new : NgReading) (before after : Option (List ℕ)) : Ty
   pub given : Option Found
   pub looked : Looks old new before after [] (Ok given)
 
--- The next block before the first interface has this fault, or the source failed in it; the offset is that of the block.
+-- The next block before the first interface has this fault, or the source failed in it; the offset
+-- is that of the block.
 pub record LooksStopped (old new : NgReading) (before after : Option (List ℕ)) (stop : OpenFault) : Type 0 where
   pub halted : Halts old new (Stops old.inside old.sections before after stop.fault)
   pub place : stop.offset ≡ new.asked
@@ -189,7 +193,8 @@ abbrev pub LooksAhead : (old new : NgReading) → (before after : Option (List �
 LooksAhead old new before after (Ok done) = LooksOn old new before after
 LooksAhead old new before after (Err stop) = LooksStopped old new before after stop
 
--- Blocks without a record were skipped, and the packet block after them was taken: its record is `packet`.
+-- Blocks without a record were skipped, and the packet block after them was taken: its record is
+-- `packet`.
 pub record TakesPacket (old new : NgReading) (before after : Option (List ℕ)) (packet : Packet) : Type 0 where
   pub step : Step
   pub older : List Step
@@ -203,7 +208,7 @@ pub record PassesOver (old : NgReading) (before after : Option (List ℕ)) (step
   pub taken : TakesSteps old.inside old.sections before after steps
   pub silent : packets_of steps ≡ []
 
--- Blocks without a record were skipped, and `P` holds of the state after them.
+-- Blocks without a record were skipped, and `P` holds for the state after them.
 pub record HaltsBehind (old new : NgReading) (before after : Option (List ℕ)) (P : Sections → Option (List ℕ) → Type 0) : Type 0 where
   pub steps : List Step
   pub between : Option (List ℕ)
@@ -235,7 +240,8 @@ IfPacket (Ok (Some given)) P = P given
 IfPacket (Ok None) P = Unit {0}
 IfPacket (Err fault) P = Unit {0}
 
--- The octets up to the end of the first interface block were taken, and none after them; the blocks among them have no record.
+-- The octets up to the end of the first interface block were taken, and none after them; the blocks
+-- among them have no record.
 pub record OpensAt (inside old new : Option (List ℕ)) (reading : NgReading) : Type 0 where
   pub steps : List Step
   pub taken : TakesSteps inside no_section old new steps
@@ -243,7 +249,8 @@ pub record OpensAt (inside old new : Option (List ℕ)) (reading : NgReading) : 
   pub ends : EndsAtInterface steps
   pub moves : Moves (first_reading inside) reading steps (size_before steps) true
 
--- Blocks without an interface were skipped, and the block after them, at this offset, has this fault, or the source failed in it.
+-- Blocks without an interface were skipped, and the block after them, at this offset, has this
+-- fault, or the source failed in it.
 pub record FailsAhead (inside old new : Option (List ℕ)) (fault : NgFault) (offset : ℕ) : Type 0 where
   pub steps : List Step
   pub between : Option (List ℕ)

@@ -36,7 +36,8 @@ abbrev pub size_before : List Step → ℕ
 size_before [] = 0
 size_before (step ∷ older) = size_of older
 
--- Blocks end with the first interface block: a link is known after the newest one, and none after the older ones.
+-- Blocks end with the first interface block: a link is known after the newest one, and none after
+-- the older ones.
 abbrev pub EndsAtInterface : List Step → Type 0
 EndsAtInterface [] = ⊥
 EndsAtInterface (step ∷ older) = ((behind no_section older).link ≡ None) × IsSome step.after.link

@@ -5,8 +5,8 @@ use Rattle.pcap_file.specs.declared.order.Order.{Order}
 use Rattle.pcapng_file.specs.declared.interface.Interface.{Interface}
 use Rattle.pcapng_file.specs.declared.standing.Standing.{Standing}
 
--- The section's byte order and its interfaces, the link of the file's first interface, the time of the last record in seconds and nanoseconds, and the number
--- of blocks.
+-- The section's byte order and its interfaces, the link of the file's first interface, the time of
+-- the last record in seconds and nanoseconds, and the number of blocks.
 pub record Sections : Type 0 where
   pub order : Option Order
   pub interfaces : List Interface

@@ -2,9 +2,16 @@
 use edge_io::Failed;
 use thiserror::Error;
 
-/// Reasons why there is no further record. `Magic`, `Many`, and `Block` for a size that no block
-/// has are found in the first twelve octets of a block; `Version`, `Link`, `Long`, and `Block` for
-/// anything else are returned only if the block is not cut short.
+/// Reasons why no further record exists. `Magic`, `Many`, and `Block` for a size that no block has
+/// are found in the first twelve octets of a block. `Version`, `Link`, `Long`, and `Block` for
+/// anything else are returned only if the block is not cut short. `Cut`: the file ends inside a
+/// block, or before an interface block. `Magic`: the first block is no section block, or a section
+/// block has an unknown byte order. `Version`: a major version other than 1. `Link`: a link other
+/// than 1 and 101, or than that of the first interface. `Block`: the block is malformed, as a
+/// packet without its interface is, or not supported. Not supported are more than 64 interfaces in
+/// a section, a unit of time other than micro- and nanoseconds, a time of 2^32 seconds or more, and
+/// a packet block of type 2. `Long`: a captured length above 262,144 octets. `Many`: 2^32 - 1
+/// blocks precede.
 #[derive(Clone, Copy, Debug, PartialEq, Eq, Error)]
 pub enum NgFault {
     #[error("the octets end inside a block, or before the first interface")]

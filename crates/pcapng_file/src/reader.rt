@@ -46,7 +46,8 @@ impl Model for NgReader {
 }
 
 impl NgReader {
-    /// Reads to the end of the first interface block.
+    /// Reads to the end of the first interface block. `inside` is the name of the interface whose
+    /// packets are outbound; offsets count from the first octet left in the source.
     pub fn open<S: Source>(inside: Option<&[u8]>, source: &mut S) -> Result<NgReader, NgFault>
         requires { IfSome inside (λ name. length name.now ≤ 64) }
         ensures octets { Opens (option_map (λ name. name.now) inside.entry) (S.left source.old) (S.left source.new) result }
@@ -190,7 +191,8 @@ impl NgReader {
 
     /// Returns the next record, with its octets in the buffer. Its fraction counts nanoseconds, its
     /// offset is that of its block, and it has the side of its interface if the name of the inside
-    /// interface is given.
+    /// interface is given. Returns None exactly if no octet is left after the blocks that are
+    /// skipped. After None or an error the reader is closed.
     pub fn next<'a, S: Source>(
         &mut self,
         source: &mut S,

@@ -1,4 +1,5 @@
--- Members of the family: what each of them knows at any time, if frames describe one stream, and that all agree.
+-- Members of the family: what each of them knows at any time, if frames describe one stream, and
+-- that all agree.
 use Rattle.std.proofs.Common.{◌≡◌, ℕ, suc, ◌+◌, ◌-◌, ◌/◌, ◌%◌, ◌^◌, ◌<◌, ◌≤◌, true, arith, ◌⊎◌, List, [], ◌∷◌, ◌++◌, length, Some, Option, refl, sym, ap, ◌∙◌, subst, inl, inr, ⊎_elim, append-nil, None, Bool, get_or, ℤ, pos, negsuc, ◌+ℤ◌, ◌-ℤ◌, ◌≤ℤ◌, ◌<ℤ◌, slice_get, All}
 use Rattle.std.proofs.lemmas.Int.{ints}
 use Rattle.std.proofs.lemmas.Bool.Decides.{nat_tests}
@@ -57,7 +58,8 @@ pub comes_back : (base sequence i : ℕ) (o : ℤ) → i < 2 ^ 32 → sequence <
 comes_back base sequence i (pos n) h k low p = let e = p.is in omega (arith, ints)
 comes_back base sequence i (negsuc n) h k low p = let less : suc n ≤ 2 ^ 31 = omega (arith, ints) in let e = p.is in omega (arith, ints)
 
--- What a receiver knows at any time, if each octet and each FIN that it may be given is one of a single stream's.
+-- What a receiver knows at any time, if each octet and each FIN that it may be given is one of a
+-- single stream's.
 
 -- the list is the stream's octets from this offset on
 abbrev pub ReadFrom : (ℤ → ℕ → Type 0) → ℕ → List ℕ → Type 0
@@ -70,7 +72,8 @@ pub record IsStream (C : ℤ → ℕ → Type 0) (F : ℤ → Type 0) : Type 0 w
   pub one_end : (one other : ℤ) → F one → F other → one ≡ other
   pub none_past : (offset : ℤ) (x : ℕ) (end : ℤ) → C offset x → F end → offset <ℤ end
 
--- waiting octets are the stream's, the kept offset is its end, what was given is the stream from `start` on, and an ended receiver is at its end
+-- waiting octets are the stream's, the kept offset is its end, the given octets are the stream from
+-- `start` on, and an ended receiver is at its end
 pub record Sound (C : ℤ → ℕ → Type 0) (F : ℤ → Type 0) (start : ℕ) (r : Receiver) : Type 0 where
   pub waits : (offset : ℤ) (x : ℕ) → r.waiting offset ≡ Some x → C offset x
   pub keeps : (offset : ℤ) → r.fin ≡ Some offset → F offset
@@ -121,7 +124,8 @@ no_more : (C : ℤ → ℕ → Type 0) (F : ℤ → Type 0) (at : ℕ) (xs : Lis
 no_more C F at [] is f r = refl
 no_more C F at (x ∷ xs) is f r = absurd (apart at (is.none_past (pos at) x (pos at) r.0 f))
 
--- a step with octets and a FIN of the stream stays sound; a receiver that has ended gets no further octet
+-- a step with octets and a FIN of the stream stays sound; a receiver that has ended gets no further
+-- octet
 pub step_keeps : (C : ℤ → ℕ → Type 0) (F : ℤ → Type 0) (base start : ℕ) (s : Option Segment) (before after : Receiver) → IsStream C F → ((offset : ℤ) (x : ℕ) → Carries base (start + length before.stream) s offset x → C offset x) → ((offset : ℤ) → Ends base (start + length before.stream) s offset → F offset) → Sound C F start before → Step base start s before after → Sound C F start after
 step_keeps C F base start s before after is octets ends h t = record { waits = waits; keeps = keeps; read = read; ends = at_end }
   where

@@ -87,7 +87,8 @@ miss_nothing_in_time hops base places frames h monitor start all seen seen_ended
     covers_as ours.last theirs.last seen stream seen_ended ended ours.stream_is ours.ended_is theirs.stream_is theirs.ended_is
     (covers_last places frames start ours.last theirs.last is one two kept m.gives)
 
--- A monitor that takes the frames in order has all that any member has, whenever each frame arrives: if one is not in time for it, no member reads
+-- A monitor that takes the frames in order has all that any member has, whenever each frame
+-- arrives: if one is not in time for it, no member reads
 
 -- past its next offset.
 
@@ -139,7 +140,8 @@ module _ (hops distance base start : ℕ) (acks : List ℕ) (places : List ℤ) 
     covers_all r caught =
         covers_last places frames start r other is (caught_sound places frames start (length frames) r caught) o caught.kept caught.gives
 
-    -- no frame has an octet at the next offset of a receiver that caught the frames before a ack past it
+    -- no frame has an octet at the next offset of a receiver that heard the frames before an ack
+    -- past it
     none_next : (k ack : ℕ) (r : Receiver) → slice_get acks k ≡ Some ack → start + length r.stream < ack → Caught places frames start k r
         → (x : ℕ) → OctetAt places frames (pos (start + length r.stream)) x → ⊥
     none_next k ack r w late caught x c = by (cases_lt c.number k)
@@ -152,7 +154,8 @@ module _ (hops distance base start : ℕ) (acks : List ℕ) (places : List ℤ) 
             let from = (stay.octets (pos (start + length r.stream)) x v.0 c v.1).0 in
             omega (arith, ints, late, on, from)
 
-    -- if the other has ended, it has so at the next offset, and what follows arrives in time; otherwise nothing more is to be read
+    -- if the other has ended, it has so at the next offset, and what follows arrives in time;
+    -- otherwise nothing more is to be read
     covers_late : (rest : List (List ℕ)) (k ack : ℕ) (before after : Receiver) → IsRest (List ℕ) frames k rest → k + length rest ≡ length frames
         → slice_get acks k ≡ Some ack → start + length before.stream < ack → Caught places frames start k before
         → TakesInOrder distance base start rest before after → Covers after.stream after.ended other.stream other.ended

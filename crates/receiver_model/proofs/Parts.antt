@@ -1,4 +1,5 @@
--- Members read parts of one stream, which meet; and a monitor has read all that a member has which starts within what the monitor has read.
+-- Members read parts of one stream, which meet; and a monitor has read all that a member has which
+-- starts within what the monitor has read.
 use Rattle.std.proofs.Common.{◌≡◌, ℕ, zero, suc, ◌+◌, ◌-◌, ◌<◌, ◌≤◌, Bool, true, arith, ◌⊎◌, List, [], ◌∷◌, ◌++◌, length, Some, Option, refl, sym, ap, ◌∙◌, subst, inl, inr, ⊎_elim, append-nil, get_or, length-append, ℤ, pos, ◌<ℤ◌, slice_get}
 use Rattle.std.proofs.lemmas.Int.{ints}
 use Rattle.std.proofs.lemmas.Option.{slice_get_within, slice_get-get_or}
@@ -89,7 +90,8 @@ meeting_agree start a b a_ended b_ended m = record { prefix = prefix; first = fi
     both : a_ended ≡ true → b_ended ≡ true → a ≡ b
     both e f = ⊎_elim (λ p. first e p) (λ p. sym (second f p)) prefix
 
--- A monitor that heard all frames in time has read all that a member has which starts within what the monitor has read.
+-- A monitor that heard all frames in time has read all that a member has which starts within what
+-- the monitor has read.
 
 module _ (places : List ℤ) (frames : List (List ℕ)) (from start : ℕ) (r other : Receiver) (is : IsStream (OctetAt places frames) (FinAt places frames))
     (h : Sound (OctetAt places frames) (FinAt places frames) from r) (k : Sound (OctetAt places frames) (FinAt places frames) start other)

@@ -1,4 +1,5 @@
--- Packets with their offsets, and with the acks before them: a fact of each packet, and that the octets of each stay near its ack.
+-- Packets with their offsets, and with the acks before them: a fact of each packet, and that the
+-- octets of each stay near its ack.
 use Rattle.std.proofs.Common.{◌≡◌, ℕ, zero, suc, ◌+◌, ◌^◌, ◌<◌, Some, List, [], ◌∷◌, ◌++◌, length, refl, ap, subst, ℤ, pos, ◌+ℤ◌, ◌≤ℤ◌, IsTrue, slice_get}
 use Rattle.wire_base.specs.Tcp as tcp
 use Rattle.wire_base.specs.Segments.{Segment, segment_of}

@@ -1,4 +1,5 @@
--- Plain packets: the positions of their fields, what the codecs read of them, and that a written packet is read as it was written.
+-- Plain packets: the positions of their fields, what the codecs read of them, and that a written
+-- packet is read as it was written.
 use Rattle.std.proofs.Common.{◌≡◌, ℕ, ◌+◌, ◌*◌, ◌/◌, ◌-◌, ◌≤◌, List, length, take, drop, sym, ap, ◌∙◌, arith, length-drop, add_assoc, ◌↔◌, ◌⊎◌, inl, inr, ◌==◌, ◌&&◌, ◌||◌, not, nat_lt, Bool, true, false, [], Option, Some, None, Ok, is_ok, if◌then◌else◌, refl, eq-eqb, ◌%◌, slice_index}
 use Rattle.std.proofs.Math.Seq.{take-length}
 use Rattle.std.proofs.lemmas.List.{get_or-drop, drop-take, drop_all}

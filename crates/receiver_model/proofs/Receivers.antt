@@ -1,4 +1,5 @@
--- Receivers: what one keeps of frames that it hears in time, and what one has that took the first frames in order.
+-- Receivers: what one keeps of frames that it hears in time, and what one has that took the first
+-- frames in order.
 use Rattle.std.proofs.Common.{◌≡◌, ◌⊎◌, ℕ, ◌+◌, ◌≤◌, List, length, Some, None, Option, refl, sym, ap, ◌∙◌, subst, inl, inr, arith, length-append, suc, ◌<◌, ◌^◌, ◌∷◌, get_or, ℤ, pos, ◌+ℤ◌, ◌≤ℤ◌, slice_get, ◌<ℤ◌, IsTrue}
 use Rattle.std.proofs.lemmas.Int.{ints}
 use Rattle.std.proofs.lemmas.Option.{slice_get_within, slice_get-get_or}
@@ -18,7 +19,8 @@ use Rattle.receiver_model.proofs.Members.{place_on, ComesInTime, all_at, plain_n
 abbrev pub Waits : (waiting : ℤ → Option ℕ) → ℤ → Type 0
 Waits waiting offset = (x : ℕ) × (waiting offset ≡ Some x)
 
--- what is kept of the frame with this index: octets wait at its offsets from the next one on, and a FIN is kept if it has one
+-- what is kept of the frame with this index: octets wait at its offsets from the next one on, and a
+-- FIN is kept if it has one
 pub record Kept (places : List ℤ) (frames : List (List ℕ)) (start number : ℕ) (r : Receiver) : Type 0 where
   pub octets :
       (offset : ℤ) (x : ℕ) (c : OctetAt places frames offset x) →
@@ -144,7 +146,8 @@ kept_now hops distance base start places frames number before after near h hears
         by None none = (offset, keeps.fin offset ends none)
         by (Some end) is = still_kept base start hears.segment before after hears.step (end, is)
 
--- What a receiver has that took the first frames in order, each in time, and when the next frame is in time for it.
+-- What a receiver has that took the first frames in order, each in time, and when the next frame is
+-- in time for it.
 
 -- ---- elements from an index on
 
@@ -161,7 +164,7 @@ rest_first X all k x rest is = let there : k + 0 ≡ k = omega arith in subst (�
 pub rest_on : (X : Type 0) (all : List X) (k : ℕ) (x : X) (rest : List X) → IsRest X all k (x ∷ rest) → IsRest X all (k + 1) rest
 rest_on X all k x rest is i y e = let there : k + suc i ≡ k + 1 + i = omega arith in subst (λ n. slice_get all n ≡ Some y) there (is (suc i) y e)
 
--- a frame has a ack
+-- a frame has an ack
 pub has_ack : (acks : List ℕ) (places : List ℤ) (frames : List (List ℕ)) (k : ℕ) → StayNearAcks acks places frames → k < length frames
     → (ack : ℕ) × (slice_get acks k ≡ Some ack)
 has_ack acks places frames k stay within =
@@ -280,7 +283,7 @@ ahead_at_end hops base places frames next number end h f past = record {
 module _ (hops base start : ℕ) (acks : List ℕ) (places : List ℤ) (frames : List (List ℕ)) (k ack : ℕ) (r : Receiver)
     (h : TellOneStream hops base places frames) (stay : StayNearAcks acks places frames) (low : start ≤ 2 ^ 31)
     (w : slice_get acks k ≡ Some ack) (caught : Caught places frames start k r) where
-  -- what was read is of frames before this one, so it ends at most 2^30 past the ack
+  -- the read octets are of frames before this one, so it ends at most 2^30 past the ack
   reach : (start + length r.stream ≡ start) ⊎ (start + length r.stream ≤ ack + 2 ^ 30 + 1)
   reach = by (read_end (OctetBefore places frames k) start r.stream caught.sound.read)
     where

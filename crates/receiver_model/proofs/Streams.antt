@@ -1,4 +1,5 @@
--- Streams: to take a segment is a step of the family, streams are monitors, and those of the four policies agree.
+-- Streams: to take a segment is a step of the family, streams are monitors, and those of the four
+-- policies agree.
 use Rattle.std.proofs.Common.{◌≡◌, ℕ, ◌+◌, List, [], ◌∷◌, ◌++◌, length, Some, None, Option, ap, ◌∙◌, subst, arith, length-append, append_assoc, zero, suc, refl, sym, inr, ◌⊎◌, ◌-◌, ◌^◌, ◌<◌, Bool, true, false, inl, ⊎_elim, take, drop, length-drop, ◌≤◌, Result, Ok, Err, OnOk, OnErr, ℤ, pos, slice_get, nat_eq, option_map, ◌||◌, ◌≤ℤ◌}
 use Rattle.std.proofs.lemmas.List.Sums.{fold_push}
 use Rattle.std.proofs.lemmas.Bool.Decides.{nat_tests}

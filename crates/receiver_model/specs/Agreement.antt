@@ -11,7 +11,8 @@ use Rattle.receiver_model.specs.Delivery.{DeliversInTime}
 abbrev pub IsPrefixOf : List ℕ → List ℕ → Type 0
 IsPrefixOf xs ys = (rest : List ℕ) × (xs ++ rest ≡ ys)
 
--- one stream is a prefix of the other; an ended stream is a prefix only of an equal one; two ended streams are equal
+-- one stream is a prefix of the other; an ended stream is a prefix only of an equal one; two ended
+-- streams are equal
 pub record Agree (a : List ℕ) (a_ended : Bool) (b : List ℕ) (b_ended : Bool) : Type 0 where
   pub prefix : IsPrefixOf a b ⊎ IsPrefixOf b a
   pub first : a_ended ≡ true → IsPrefixOf a b → a ≡ b
@@ -48,11 +49,13 @@ pub record ArePlaces (base : ℕ) (places : List ℤ) (frames : List (List ℕ))
   pub one_each : length places ≡ length frames
   pub placed : (number : ℕ) (frame : List ℕ) (s : Segment) (place : ℤ) → slice_get frames number ≡ Some frame → segment_of frame ≡ Some s → slice_get places number ≡ Some place → IsPlace base s.sequence place
 
--- a SYN has the sequence number before the base (RFC 9293 section 3.4: a SYN precedes the first octet)
+-- a SYN has the sequence number before the base (RFC 9293 section 3.4: a SYN precedes the first
+-- octet)
 abbrev pub HasSynBefore : (base : ℕ) → List ℕ → Type 0
 HasSynBefore base p = IfSome (segment_of p) (λ s. IsTrue (tcp.has_syn s.flags) → (s.sequence + 1) % 2 ^ 32 ≡ base % 2 ^ 32)
 
--- plain frames with these places that describe one stream: one octet at each offset, one end, and no octet at or after it
+-- plain frames with these places that describe one stream: one octet at each offset, one end, and
+-- no octet at or after it
 pub record TellOneStream (hops base : ℕ) (places : List ℤ) (frames : List (List ℕ)) : Type 0 where
   pub plain : All (λ p. Plain hops p) frames
   pub syns : All (λ p. HasSynBefore base p) frames
@@ -65,8 +68,9 @@ pub record TellOneStream (hops base : ℕ) (places : List ℤ) (frames : List (L
 abbrev pub IsMember : (hops : ℕ) → Member → Type 0
 IsMember hops member = member.distance ≤ hops
 
--- Each frame is plain, so all members read it alike. Each SYN has the number before the base. Any two members that start at the same offset agree, whichever
--- of the frames reach each of them in time, how often and in which order, and whichever octets each keeps.
+-- Each frame is plain, so all members read it alike. Each SYN has the number before the base. Any
+-- two members that start at the same offset agree, whichever of the frames reach each of them in
+-- time, how often and in which order, and whichever octets each keeps.
 pub record EraAgrees (hops base : ℕ) (places : List ℤ) (frames : List (List ℕ)) : Type 0 where
   pub plain : All (λ p. Plain hops p) frames
   pub syns : All (λ p. HasSynBefore base p) frames

@@ -45,21 +45,22 @@ pub record EachTakes (frame : List ℕ) (before after : FamilyState) : Type 0 wh
 abbrev pub GoesBack : (before after : StreamState) → Type 0
 GoesBack before after = gone_back after (mark_of before) ≡ before
 
--- each of the four is so
+-- this holds for each of the four
 pub record EachGoesBack (before after : FamilyState) : Type 0 where
   pub first : GoesBack before.first after.first
   pub newest : GoesBack before.newest after.newest
   pub left : GoesBack before.left after.left
   pub right : GoesBack before.right after.right
 
--- the stream with this policy, base and start is what a host at this distance makes of these frames, each delivered once and in order
+-- the stream with this policy, base and start is what a host at this distance makes of these
+-- frames, each delivered once and in order
 pub record StandsAs (policy : Policy) (distance base start : ℕ) (stream : StreamState) (frames : List (List ℕ)) : Type 0 where
   pub has_policy : stream.policy ≡ policy
   pub has_base : stream.base ≡ base
   pub has_start : stream.start ≡ start
   pub stands : StandsFor distance stream frames
 
--- each of the four is so
+-- this holds for each of the four
 pub record AllStandFor (distance base start : ℕ) (family : FamilyState) (frames : List (List ℕ)) : Type 0 where
   pub first : StandsAs First distance base start family.first frames
   pub newest : StandsAs Newest distance base start family.newest frames

@@ -3,7 +3,8 @@ use Rattle.std.specs.Prelude.{ℕ, List, take, drop}
 use Rattle.wire_base.specs.Segments.{Segment}
 use Rattle.receiver_model.specs.declared.segment.Segment.{Segment as Fields}
 
--- the segment of these fields, with options and octets as they are in the packet: options from octet 40 on, octets from `start` on
+-- the segment of these fields, with options and octets as they are in the packet: options from
+-- octet 40 on, octets from `start` on
 abbrev pub segment_in : List ℕ → Fields → Segment
 segment_in p f =
     record {

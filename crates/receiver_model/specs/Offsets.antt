@@ -1,5 +1,6 @@
--- Offsets in a stream, and what a segment has at an offset (RFC 9293 section 3.4: sequence numbers are counted modulo 2^32; which multiple of 2^32 is meant is
--- this project's profile). `next` is the offset at which the stream continues.
+-- Offsets in a stream, and what a segment has at an offset (RFC 9293 section 3.4: sequence numbers
+-- are counted modulo 2^32). Which multiple of 2^32 is meant is this project's profile. `next` is
+-- the offset at which the stream continues.
 use Rattle.std.specs.Prelude.{◌≡◌, ℕ, ◌+◌, ◌-◌, ◌%◌, ◌^◌, IsTrue, length, ℤ, pos, ◌+ℤ◌, ◌-ℤ◌, ◌*ℤ◌, ◌≤ℤ◌, ◌<ℤ◌, Option, Some, None, slice_get}
 use Rattle.wire_base.specs.Segments.{Segment}
 use Rattle.wire_base.specs.Tcp as tcp
@@ -27,7 +28,8 @@ raised_of base next number = next + (number + 2 ^ 33 + 2 ^ 31 - base % 2 ^ 32 - 
 abbrev pub offset_in : ℕ → ℤ
 offset_in raised = pos raised -ℤ pos (2 ^ 31)
 
--- the segment has this octet at this offset: octet `i` has the sequence number of the segment plus `i`
+-- the segment has this octet at this offset: octet `i` has the sequence number of the segment plus
+-- `i`
 abbrev pub Carries : (base next : ℕ) → Option Segment → ℤ → ℕ → Type 0
 Carries base next None offset octet = ⊥
 Carries base next (Some s) offset octet = (i : ℕ) × (slice_get s.octets i ≡ Some octet) × Names base next (s.sequence + i) offset

@@ -1,5 +1,5 @@
--- What members read of one stream, each from an offset of its own (this project's profile). `first` has the octets of the stream by offset, `end` the offset of
--- its end, if that is known.
+-- The parts that members read of one stream, each from its own offset (this project's profile).
+-- `first` has the octets of the stream by offset, `end` the offset of its end, if that is known.
 use Rattle.std.specs.Prelude.{◌≡◌, ℕ, ◌+◌, ◌<◌, ◌≤◌, ◌^◌, Bool, true, List, length, ℤ, pos, ◌<ℤ◌, Option, Some, slice_get}
 use Rattle.receiver_model.specs.declared.member.Member.{Member}
 use Rattle.receiver_model.specs.Delivery.{DeliversInTime, Receiver, beginning}
@@ -7,15 +7,15 @@ use Rattle.receiver_model.specs.Agreement.{Agree, FinAt, IsMember, OctetAt, Tell
 use Rattle.receiver_model.specs.Monitors.{IsNeverFarBehind, MonitorsInTime, StayNearAcks, TakesInOrder}
 use Rattle.receiver_model.specs.Streams.{places_from}
 
--- What was read from the offset `start` on is a part of the stream: each octet is the stream's at its offset, none is at or past the end, and a reader that
--- has ended has read up to the end.
+-- What was read from the offset `start` on is a part of the stream. Each octet is the stream's at
+-- its offset, none is at or past the end, and a reader that has ended has read up to the end.
 pub record ReadsPart (first : ℤ → Option ℕ) (end : Option ℤ) (start : ℕ) (stream : List ℕ) (ended : Bool) : Type 0 where
   pub octets : (i octet : ℕ) → slice_get stream i ≡ Some octet → first (pos (start + i)) ≡ Some octet
   pub before : (i : ℕ) (offset : ℤ) → i < length stream → end ≡ Some offset → pos (start + i) <ℤ offset
   pub ends : ended ≡ true → end ≡ Some (pos (start + length stream))
 
--- this holds of whatever a member delivers, from whichever offset it starts, whichever of the frames reach it in time, how often and in which order, and
--- whichever octets it keeps
+-- this holds for whatever a member delivers, from whichever offset it starts, whichever of the
+-- frames reach it in time, how often and in which order, and whichever octets it keeps
 abbrev pub EachReadsPart : (hops base : ℕ) (places : List ℤ) (frames : List (List ℕ)) (first : ℤ → Option ℕ) (end : Option ℤ) → Type 0
 EachReadsPart hops base places frames first end =
     (member : Member) (start : ℕ) (schedule stream : List ℕ) (ended : Bool) →
@@ -29,7 +29,7 @@ pub record AreOfStream (first : ℤ → Option ℕ) (end : Option ℤ) (places :
   pub fins : (offset : ℤ) → FinAt places frames offset → end ≡ Some offset
   pub none_past : (offset : ℤ) (octet : ℕ) (last : ℤ) → first offset ≡ Some octet → end ≡ Some last → offset <ℤ last
 
--- Of frames that describe this stream every member reads a part.
+-- Every member reads a part of the stream that these frames describe.
 abbrev pub MembersReadParts : Type 0
 MembersReadParts =
     (hops base : ℕ) (places : List ℤ) (frames : List (List ℕ)) (first : ℤ → Option ℕ) (end : Option ℤ) →
@@ -37,15 +37,16 @@ MembersReadParts =
     AreOfStream first end places frames →
     EachReadsPart hops base places frames first end
 
--- two readers have the same octet wherever both have read; none has an octet at or past the offset at which the other has ended; two that have ended did so at
--- one offset
+-- two readers have the same octet wherever both have read; none has an octet at or past the offset
+-- at which the other has ended; two that have ended did so at one offset
 pub record Meet (a_start : ℕ) (a : List ℕ) (a_ended : Bool) (b_start : ℕ) (b : List ℕ) (b_ended : Bool) : Type 0 where
   pub octets : (i j x y : ℕ) → a_start + i ≡ b_start + j → slice_get a i ≡ Some x → slice_get b j ≡ Some y → x ≡ y
   pub first : a_ended ≡ true → (j : ℕ) → j < length b → b_start + j < a_start + length a
   pub second : b_ended ≡ true → (i : ℕ) → i < length a → a_start + i < b_start + length b
   pub both : a_ended ≡ true → b_ended ≡ true → a_start + length a ≡ b_start + length b
 
--- Any two parts of one stream meet so; if both have one start, one is a prefix of the other.
+-- Any two parts of one stream meet in this way; if both have one start, one is a prefix of the
+-- other.
 pub record PartsMeet : Type 0 where
   pub meet :
       (first : ℤ → Option ℕ) (end : Option ℤ) (a_start b_start : ℕ) (a b : List ℕ) (a_ended b_ended : Bool) →
@@ -54,14 +55,16 @@ pub record PartsMeet : Type 0 where
       Meet a_start a a_ended b_start b b_ended
   pub agree : (start : ℕ) (a b : List ℕ) (a_ended b_ended : Bool) → Meet start a a_ended start b b_ended → Agree a a_ended b b_ended
 
--- what was read from `start` on is within what a monitor has read from `from` on; if it has ended, so has the monitor, at the same offset
+-- what was read from `start` on is within what a monitor has read from `from` on; if it has ended,
+-- so has the monitor, at the same offset
 pub record CoversPart (from : ℕ) (seen : List ℕ) (seen_ended : Bool) (start : ℕ) (stream : List ℕ) (ended : Bool) : Type 0 where
   pub within : start + length stream ≤ from + length seen
   pub octets : (i j octet : ℕ) → start + i ≡ from + j → slice_get stream i ≡ Some octet → slice_get seen j ≡ Some octet
   pub whole : ended ≡ true → start + length stream ≡ from + length seen
   pub end : ended ≡ true → seen_ended ≡ true
 
--- Of frames that describe one stream a monitor that hears them in time has read all that any member has which starts within what the monitor has read.
+-- A monitor that hears in time the frames of one stream has read all that any member has read which
+-- starts within what the monitor has read.
 abbrev pub MonitorsCoverParts : Type 0
 MonitorsCoverParts =
     (hops base : ℕ) (places : List ℤ) (frames : List (List ℕ)) →
@@ -75,7 +78,8 @@ MonitorsCoverParts =
     start ≤ from + length seen →
     CoversPart from seen seen_ended start stream ended
 
--- Such is a monitor that takes the frames in order, from an offset of at most 2^31 on, and is never far behind what was acknowledged.
+-- Such is a monitor that takes the frames in order, from an offset of at most 2^31 on, and is never
+-- far behind what was acknowledged.
 abbrev pub InOrderIsInTime : Type 0
 InOrderIsInTime =
     (hops base : ℕ) (acks : List ℕ) (places : List ℤ) (frames : List (List ℕ)) (monitor : Member) (start : ℕ) (last : Receiver) →

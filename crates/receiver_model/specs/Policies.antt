@@ -5,7 +5,8 @@ use Rattle.receiver_model.specs.declared.policy.Policy.TheVariants.{First, Newes
 use Rattle.receiver_model.specs.declared.policy.Waiting.{Waiting}
 use Rattle.receiver_model.specs.Offsets.{raised_of}
 
--- a segment that a stream took: the next offset of the stream at that time, the sequence number of its first octet, and its octets
+-- a segment that a stream took: the next offset of the stream at that time, the sequence number of
+-- its first octet, and its octets
 pub record Taken : Type 0 where
   pub next : ℕ
   pub sequence : ℕ
@@ -25,7 +26,8 @@ index_of base sequence (negsuc n) = (base + 2 ^ 33 - sequence - suc n) % 2 ^ 32
 abbrev pub octet_for : (base : ℕ) → Taken → ℤ → Option ℕ
 octet_for base t offset = if is_near t.next offset then slice_get t.octets (index_of base t.sequence offset) else None
 
--- an octet of the segment as it waits, with the offset of the segment's first octet and the offset after its last one; both offsets are 2^31 too large
+-- an octet of the segment as it waits, with the offset of the segment's first octet and the offset
+-- after its last one; both offsets are 2^31 too large
 abbrev pub waiting_of : (base : ℕ) → Taken → ℕ → Waiting
 waiting_of base t octet =
     let begin = raised_of base t.next t.sequence in
@@ -35,7 +37,8 @@ waiting_of base t octet =
 abbrev pub brought : (base : ℕ) → Taken → ℤ → Option Waiting
 brought base t offset = option_map (waiting_of base t) (octet_for base t offset)
 
--- whether an octet replaces the waiting one: never; always; if its segment begins at a smaller offset; if its segment ends at a larger one
+-- whether an octet replaces the waiting one: never; always; if its segment begins at a smaller
+-- offset; if its segment ends at a larger one
 abbrev pub replaces : Policy → (old new : Waiting) → Bool
 replaces First old new = false
 replaces Newest old new = true

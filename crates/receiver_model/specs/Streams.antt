@@ -9,7 +9,8 @@ use Rattle.receiver_model.specs.Offsets.{raised_of, offset_in, Carries, Ends}
 use Rattle.receiver_model.specs.Delivery.{Receiver, Extends, Step, Delivers}
 use Rattle.receiver_model.specs.Policies.{Taken, chosen, waiting_of, waiting_after, octet_after}
 
--- the state of a stream: `taken` are the segments that it took, in order, and they determine which octets wait; `fin` is the offset of a FIN plus 2^31
+-- the state of a stream: `taken` are the segments that it took, in order, and they determine which
+-- octets wait; `fin` is the offset of a FIN plus 2^31
 pub record StreamState : Type 0 where
   pub policy : Policy
   pub base : ℕ
@@ -92,7 +93,8 @@ abbrev pub places_from : ℕ → List (List ℕ) → List ℕ
 places_from place [] = []
 places_from place (frame ∷ frames) = place ∷ places_from (place + 1) frames
 
--- the stream is what a host at this distance makes of these frames, each delivered once and in order
+-- the stream is what a host at this distance makes of these frames, each delivered once and in
+-- order
 pub record StandsFor (distance : ℕ) (stream : StreamState) (frames : List (List ℕ)) : Type 0 where
   pub delivery : Delivers distance stream.base stream.start frames (places_from 0 frames) stream.octets stream.ended
   pub last_is : delivery.last ≡ receiver_of stream

@@ -1,4 +1,5 @@
--- TCP packets as the bridge writes them: a header without options before a segment (RFC 791 section 3.1, RFC 9293 section 3.1).
+-- TCP packets as the bridge writes them: a header without options before a segment (RFC 791 section
+-- 3.1, RFC 9293 section 3.1).
 use Rattle.std.specs.Prelude.{◌≡◌, ℕ, ◌<◌, ◌||◌, true, false, List, [], ◌++◌, length, Some}
 use Rattle.wire_base.specs.Options.{are_well_formed, cleaned}
 use Rattle.wire_base.specs.Plain.{Plain}
@@ -8,8 +9,8 @@ use Rattle.ipv4_codec.specs.declared.header.Ipv4.{Ipv4}
 use Rattle.ipv4_codec.specs.Write.{plain_header}
 use Rattle.tcp_codec.specs.Write.{Fits, segment_octets}
 
--- a segment whose numbers and sizes fit, with legal flags and without URG, with well-formed options that cleaning leaves unchanged, and without octets on SYN
--- or RST
+-- a segment whose numbers and sizes fit, with legal flags and without URG, with well-formed options
+-- that cleaning leaves unchanged, and without octets on SYN or RST
 pub record IsPlainSegment (s : Segment) : Type 0 where
   pub fits : Fits s
   pub legal : are_legal s.flags ≡ true

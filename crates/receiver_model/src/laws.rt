@@ -16,32 +16,32 @@ pub fn members_read_parts()
     ensures { MembersReadParts }
 {}
 
-/// Proves that two parts of one stream have the same octet wherever both have one, that none has an
-/// octet at or past the offset at which the other has ended, and that one is a prefix of the other
-/// if both have one start.
+/// Proves that two parts of one stream have the same octet wherever both have one. None has an
+/// octet at or past the offset at which the other has ended, and one is a prefix of the other if
+/// both have one start.
 pub fn parts_meet()
     ensures { PartsMeet }
 {}
 
 /// Proves that a monitor which hears the frames in time has read all that any member has which
-/// starts within what the monitor has read, and has ended if that member has. One that takes them in
-/// order hears them so, if it is never far behind what was acknowledged.
+/// starts within what the monitor has read, and has ended if that member has. One that takes them
+/// in order hears them so, if it is never far behind what was acknowledged.
 pub fn monitors_cover_parts()
     ensures in_time { MonitorsCoverParts }
     ensures in_order { InOrderIsInTime }
 {}
 
-/// Proves that a monitor misses nothing of frames that describe one stream: a member that hears
-/// every frame, keeps each octet not yet read and delivers all that it can has a stream of which
-/// every other member's is a prefix. It hears them in any order, each in time; or in order, whenever
-/// they arrive, if they stay near what was acknowledged.
+/// Proves that a monitor misses nothing of frames that describe one stream. A monitor is a member
+/// that hears every frame, keeps each octet not yet read and delivers all that it can. Every other
+/// member's stream is a prefix of its stream. It hears them in any order, each in time; or in
+/// order, whenever they arrive, if they stay near what was acknowledged.
 pub fn monitors_miss_nothing()
     ensures { MonitorsMissNothing }
 {}
 
 /// Proves that a monitor which takes the frames in order, from an offset of at most 2^31 on, hears
-/// each in time, if before each frame with an octet or a FIN its next offset is less than 2^30 below
-/// what was acknowledged.
+/// each in time. Premise: before each frame with an octet or a FIN its next offset is less than
+/// 2^30 below what was acknowledged.
 pub fn monitors_are_in_time()
     ensures { MonitorsAreInTime }
 {}

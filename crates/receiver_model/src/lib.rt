@@ -1,20 +1,20 @@
 //! Receivers that put a stream together from frames, and the law that all of them agree.
 //!
-//! Proved (`laws::members_agree`): plain frames that describe one stream, with one octet at each
-//! offset and one end, make any two receivers of the family deliver streams of which one is a
-//! prefix of the other, behind at most `hops` routers, under any schedules in which each octet
-//! arrives within 2^31 of the receiver's next offset. A monitor, which hears every frame, keeps
-//! each octet not yet read and delivers all that it can, has a stream of which every other
-//! receiver's is a prefix (`laws::monitors_miss_nothing`). It hears the frames in any order, each in
-//! time; or in order, whenever they arrive, if they stay near what was acknowledged. In order each
-//! is in time while the monitor is not far behind that (`laws::monitors_are_in_time`). From whichever
-//! offset a receiver starts, it reads a part of the one stream (`laws::members_read_parts`), so any
-//! two have the same octet wherever both have one (`laws::parts_meet`). A monitor that hears the
-//! frames in time has all that a receiver has which starts within what the monitor has read
-//! (`laws::monitors_cover_parts`). A `Stream` with any of four policies is a receiver of the family,
-//! and a monitor once it has taken every frame in order (`laws::streams_are_monitors`).
-//! `Family::agree` returns exactly whether each two of the four agree, and they do if their frames
-//! describe one stream and arrive in time. `plain` returns
+//! Proved (`laws::members_agree`): let plain frames describe one stream, with one octet at each
+//! offset and one end. Then any two receivers of the family that start at the same offset, behind
+//! at most `hops` routers, agree: the stream of one is a prefix of the other's. The schedules are
+//! any in which each octet arrives within 2^31 of the receiver's next offset. A monitor hears every
+//! frame, keeps each octet not yet read and delivers all that it can; the stream of every other
+//! receiver from the same start is a prefix of its stream (`laws::monitors_miss_nothing`). It hears
+//! the frames in any order, each in time; or in order, whenever they arrive, if they stay near what
+//! was acknowledged. In order each is in time while the monitor is not far behind that
+//! (`laws::monitors_are_in_time`). From whichever offset a receiver starts, it reads a part of the
+//! one stream (`laws::members_read_parts`), so any two have the same octet wherever both have one
+//! (`laws::parts_meet`). A monitor that hears the frames in time has all that a receiver has which
+//! starts within what the monitor has read (`laws::monitors_cover_parts`). A `Stream` with any of
+//! four policies is a receiver of the family, and a monitor once it has taken every frame in order
+//! (`laws::streams_are_monitors`). `Family::agree` returns exactly whether each two of the four
+//! agree, and they do if their frames describe one stream and arrive in time. `plain` returns
 //! exactly whether a packet is plain. A written header and segment are plain for every number of
 //! routers below the TTL, and are read as that segment (`laws::written_packets_are_read`). Any two
 //! receivers read a plain packet as the same segment, UDP datagram or ICMP message

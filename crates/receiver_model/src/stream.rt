@@ -18,8 +18,8 @@ use std::marker::Model;
 use wire_base::sequence_plus;
 
 /// Receiver of one connection's octets. `base` is the sequence number of the octet at offset 0, and
-/// the stream begins at the offset `start`. Waiting octets are never removed, so each look-up goes
-/// over all segments that were taken.
+/// the stream begins at the offset `start`. Waiting octets are never removed, so each look-up reads
+/// all segments that were taken.
 #[derive(Drop)]
 pub struct Stream {
     alloc: Global,
@@ -101,7 +101,8 @@ fn extend(
 }
 
 impl Stream {
-    /// Creates a receiver without segments.
+    /// Creates a receiver without segments. Its first octet has the offset `start`; `base` is the
+    /// sequence number of offset 0.
     pub fn open(alloc: Global, policy: Policy, base: u32, start: u32) -> Result<Stream, NoMemory>
         ensures fresh { IfOk result (λ s. s ≡ fresh policy base start) }
         ensures stands { IfOk result (λ s. (distance : ℕ) → StandsFor distance s []) }
@@ -120,7 +121,9 @@ impl Stream {
 
     /// Takes a packet: its octets are set if none waits or the policy replaces the waiting one, the
     /// offset of the first FIN is kept, and the stream is extended as far as octets wait. It may
-    /// continue past its end, if octets wait there.
+    /// continue past its end, if octets wait there. A sequence number is read as an offset from
+    /// 2^31 before the next one to below 2^31 past it. If memory cannot be allocated, the stream is
+    /// unchanged.
     pub fn take(&mut self, bytes: &[u8]) -> Result<(), NoMemory>
         requires plain { Plain 0 bytes.now }
         requires tcp { ip.protocol bytes.now ≡ 6 }

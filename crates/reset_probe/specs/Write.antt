@@ -1,4 +1,5 @@
--- The packet of a probe (this project's profile, over RFC 791 section 3.1 and RFC 9293 section 3.1).
+-- The packet of a probe (this project's profile, over RFC 791 section 3.1 and RFC 9293 section
+-- 3.1).
 use Rattle.std.specs.Prelude.{◌≡◌, ℕ, ◌<◌, ◌^◌, true, List, [], ◌++◌}
 use Rattle.wire_base.specs.Plain.{Plain}
 use Rattle.wire_base.specs.Segments.{Segment, fields_of, written_of}

@@ -19,7 +19,7 @@ const SEGMENT: u16 = 20;
 const ACK: Flags = Flags(16);
 
 /// Writes the packet of a probe between the addresses of `head` and these ports. Returns its length
-/// in octets.
+/// in octets. 40 octets: an IPv4 header and a TCP header with ACK alone.
 pub fn write_probe(head: &Ipv4, sport: u16, dport: u16, probe: &Probe, buf: &mut [u8]) -> usize
     requires room { 40 ≤ length buf.old }
     ensures exact { buf.new ≡ probe_octets head.now sport dport probe.now ++ drop 40 buf.old }

@@ -1,4 +1,5 @@
--- The text of an entry and of a last line as joined words, and the words that are read back from it.
+-- The text of an entry and of a last line as joined words, and the words that are read back from
+-- it.
 use Rattle.std.proofs.Common.{◌≡◌, ℕ, ◌<◌, ◌≤◌, Bool, true, false, nat_eq, List, [], ◌∷◌, length, map, refl, sym, ap, ◌∙◌, subst, arith, rules, append-nil, length-append, ◌^◌, ◌++◌, Option, Some, None, IfSome, decimal, append_assoc, codes}
 use Rattle.std.proofs.lemmas.Bool.Decides.{nat_tests}
 use Rattle.std.specs.List.{AllByRecursion, after_first, before_first, flat_map}
@@ -27,7 +28,7 @@ joined_before text word [] solid is =
     ap (before_first (λ x. nat_eq x 32)) whole ∙ before_past 32 word (solid-has_no 32 word refl solid)
 joined_before text word (next ∷ words) solid is = before_in 32 text word (joined (next ∷ words)) (solid-has_no 32 word refl solid) is
 
--- the joined words behind the first
+-- the joined words after the first
 pub joined_after : (text word : List ℕ) (words : List (List ℕ)) → is_solid word ≡ true → text ≡ joined (word ∷ words) → after_first (λ x. nat_eq x 32) text ≡ joined words
 joined_after text word [] solid is =
     let whole : text ≡ word = is ∙ append-nil word in
@@ -64,7 +65,7 @@ has_room entry (belongs era) marks rules_fit ended_fit = tt
 has_room entry (began era) marks rules_fit ended_fit = tt
 has_room entry (over ended) marks rules_fit ended_fit = omega (arith, ended_grow (with_mark entry (over ended)) marks, length-append entry.ended (ended ∷ []))
 
--- the next word is that of a mark, and the words behind it are the other marks
+-- the next word is that of a mark, and the words after it are the other marks
 pub record IsNext (entry : PlainEntry) (rest : List ℕ) (whole : PlainEntry) : Type 0 where
   pub mark : Mark
   pub fits : MarkFits mark
@@ -114,7 +115,7 @@ era_marks mark (Some era) = mark era ∷ []
 abbrev pub marks_of : PlainEntry → List Mark
 marks_of entry = map named entry.rules ++ (era_marks belongs entry.era ++ (era_marks began entry.begun ++ map over entry.ended))
 
--- the word of a mark behind a space
+-- the word of a mark after a space
 abbrev pub mark_part : Mark → List ℕ
 mark_part mark = part (mark_word mark)
 
@@ -227,7 +228,7 @@ bare-with_marks entry =
     with_named (bare entry) entry.rules (era_marks belongs entry.era ++ (era_marks began entry.begun ++ map over entry.ended))
     ∙ with_eras (record (bare entry) { rules = entry.rules }) entry.era entry.begun entry.ended refl refl refl
 
--- the line of an entry without its line feed is what stands before its first one
+-- the line of an entry without its line feed is what precedes its first one
 pub front_is : (entry : PlainEntry) → EntryFits entry → (line body : List ℕ) → line ≡ entry_text entry → ((front : List ℕ) → line ≡ front ++ 10 ∷ [] → body ≡ front) → body ≡ before_first (λ x. nat_eq x 10) line
 front_is entry fits line body is b =
     let whole = is ∙ entry_text-joined entry in
@@ -266,7 +267,7 @@ words_at entry fits line body number behind_number side behind_side verdict behi
 
 -- The word of an ended era, cut at its colons.
 
--- the reason, and the octets behind it
+-- the reason, and the octets after it
 reason_front : (text : List ℕ) (reason : Reason) (octets : Option ℕ) → text ≡ reason_word reason ++ octets_part octets → before_first (λ x. nat_eq x 58) text ≡ reason_word reason
 reason_front text reason None is =
     ap (before_first (λ x. nat_eq x 58)) (is ∙ append-nil (reason_word reason)) ∙ before_past 58 (reason_word reason) (reason-no_colon reason)

@@ -122,7 +122,8 @@ mark-solid (over ended) fits =
 
 -- The lines of octets.
 
--- the lines of an octet and what follows: the octet ends a line if it is a line feed, else it begins the first line
+-- the lines of an octet and what follows: the octet ends a line if it is a line feed, else it
+-- begins the first line
 abbrev pub after_octet : Bool → ℕ → List ℕ → List (List ℕ)
 after_octet feed octet octets = cond feed ((octet ∷ []) ∷ lines octets) (onto_first octet (lines octets))
 
@@ -181,7 +182,7 @@ lines_front (x ∷ xs) front back some f b =
     let text = x ∷ xs in
     lines_cut x xs ∙ (λ i. sym (f ∙ take_min (feed_place text + 1) text) i ∷ lines (sym (b ∙ drop_min (feed_place text + 1) text) i))
 
--- the first line of octets, and the lines behind it
+-- the first line of octets, and the lines after it
 pub record HasLine (octets : List ℕ) : Type 0 where
   pub text : List ℕ
   pub others : List (List ℕ)

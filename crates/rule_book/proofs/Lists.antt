@@ -1,4 +1,4 @@
--- What holds of options and of joined lists, and octets that are put into a buffer in two steps.
+-- What holds for options and for joined lists, and octets that are put into a buffer in two steps.
 use Rattle.std.proofs.Common.{◌≡◌, Option, Some, None, IsSome, subst, List, [], ◌∷◌, ◌++◌, ℕ, ◌+◌, ◌-◌, ◌≤◌, length, take, drop, sym, ap, ◌∙◌, arith, append_assoc, take-take, length-drop, length-take-le, take-append-drop}
 use Rattle.std.proofs.lemmas.Bool.{false≢true}
 use Rattle.std.specs.List.{AllByRecursion}
@@ -16,7 +16,7 @@ none_or_some none some = cc
 pub none_is_some : {A : Type 0} {o : Option A} → o ≡ None → IsSome o → ⊥
 none_is_some {A} none some = absurd (false≢true (subst (λ (p : Option A). IsSome p) none some))
 
--- What holds of each element of two lists holds of both joined.
+-- What holds for each element of two lists holds for both joined.
 
 pub all-append : {A : Type 0} (P : A → Type 0) (xs ys : List A) → AllByRecursion P xs → AllByRecursion P ys → AllByRecursion P (xs ++ ys)
 all-append P [] ys front back = back

@@ -1,4 +1,5 @@
--- The decimal digits of a number: how many, and that they are read back; numbers that rise along a list.
+-- The decimal digits of a number: how many, and that they are read back; numbers that rise along a
+-- list.
 use Rattle.std.proofs.Common.{◌≡◌, ℕ, zero, suc, ◌+◌, ◌*◌, ◌/◌, ◌%◌, ◌^◌, ◌<◌, ◌≤◌, [], ◌∷◌, length, decimal, refl, arith, length-append, ◌-◌, nat_lt, nat_le, true, List, ◌++◌, Some, None, ap, ◌∙◌, if◌then◌else◌, Bool, ◌&&◌, slice_index, add-one}
 use Rattle.std.proofs.lemmas.Fmt.{decimal_digit, decimal_step, length-decimal-le, decimal_nonempty, decimal_by_steps}
 use Rattle.std.proofs.Math.Nat.{pow-succ'}

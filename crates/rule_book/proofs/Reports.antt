@@ -1,4 +1,5 @@
--- The lines of a report: they are its text, they are read one by one, and have one outcome, the report or the first fault.
+-- The lines of a report: they are its text, they are read one by one, and have one outcome, the
+-- report or the first fault.
 use Rattle.std.proofs.Common.{◌≡◌, ℕ, ◌+◌, true, inl, inr, List, [], ◌∷◌, ◌++◌, get_or, codes, refl, ap, arith, map, reverse, sym, ◌∙◌, append-nil, append_assoc, zero, suc, length, subst, add-one, add-zero, add_comm, ◌≢◌, ◌⊎◌, drop, Result, Ok, Err, IfOk, MatchResult}
 use Rattle.std.proofs.lemmas.List.{reverse-append, length_push, map-append}
 use Rattle.std.proofs.lemmas.List.Folds.{concat-append}
@@ -138,7 +139,8 @@ later_numbers from e entries numbered = ap (λ (l : List ℕ). drop 1 l) numbere
 stops_later : (version from : ℕ) (e : PlainEntry) (entries : List PlainEntry) (others : List (List ℕ)) → Stops version (from + length (e ∷ entries)) others → Stops version ((from + 1) + length entries) others
 stops_later version from e entries others stops = let same : from + suc (length entries) ≡ (from + 1) + length entries = omega arith in subst (λ n. Stops version n others) same stops
 
--- two lists of numbered entries that the same lines begin with are the same, if no further entry follows either
+-- two lists of numbered entries that the same lines begin with are the same, if no further entry
+-- follows either
 same_entries : (version from : ℕ) (es fs : List PlainEntry) (others more : List (List ℕ)) → AllByRecursion (IsEntryOf version) es → AllByRecursion (IsEntryOf version) fs → NumberedFrom from es → NumberedFrom from fs
     → Stops version (from + length es) others → Stops version (from + length fs) more → map entry_text es ++ others ≡ map entry_text fs ++ more → (es ≡ fs) × (others ≡ more)
 same_entries version from [] [] others more ef ff en fn eo fo same = (refl, same)
@@ -154,7 +156,7 @@ abbrev after_last : (version : ℕ) → List PlainEntry → Last → List (List 
 after_last version entries last [] = Ok (record { version = version; entries = entries; last = last })
 after_last version entries last (text ∷ others) = Err (Shape (length entries + 3))
 
--- a missing or malformed line behind the entries, and its fault
+-- a missing or malformed line after the entries, and its fault
 record Amiss (version : ℕ) (entries : List PlainEntry) (others : List (List ℕ)) (outcome : Result PlainReport LineFault) : Type 0 where
   amiss : BeginsAmiss version others
   gives : outcome ≡ Err (Shape (length entries + 2))

@@ -184,7 +184,7 @@ last_one a b af bf same =
     let body = body_of (last_text a) in
     same_last a b af bf (first_word body) (first_word (behind_word body)) (behind_word (behind_word body)) (last_has a af (last_text a) refl) (last_has b bf (last_text a) same)
 
--- a number is not a word with another octet than digits
+-- a word with an octet other than a digit is not a number
 number_no_word : (n : ℕ) (word : List ℕ) → n < 2 ^ 32 → all_ascii_digits word ≡ false → decimal n ≡ word → ⊥
 number_no_word n word fits letters same = false≢true (sym letters ∙ ap all_ascii_digits (sym same) ∙ decimal_digits n (omega arith))
 

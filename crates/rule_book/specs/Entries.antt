@@ -8,8 +8,9 @@ use Rattle.rule_book.specs.declared.entry.Verdict.{Verdict}
 use Rattle.rule_book.specs.declared.rule.Rule.{Rule}
 use Rattle.wire_base.specs.declared.address.Side.{Side}
 
--- the entry of a record: its number, side and verdict, the number of frames written for it, its rules in the order of the line, the era that its packet belongs
--- to, the era that it began, and the eras that ended before or with it, in the order of their ends
+-- The entry of a record: its number, side and verdict, the number of frames written for it, and its
+-- rules in the order of the line. Also the era that its packet belongs to, the era that it began,
+-- and the eras that ended before or with it, in the order of their ends.
 pub record PlainEntry : Type 0 where
   pub number : ℕ
   pub side : Option Side
@@ -34,7 +35,8 @@ plain entry =
       ended = entry.ended.items;
     }
 
--- an ended era has its octets in version 2 of the report, and has none in another version (this project's profile)
+-- an ended era has its octets in version 2 of the report, and has none in another version (this
+-- project's profile)
 abbrev pub HasOctets : (version : ℕ) → Ended → Type 0
 HasOctets version ended = is_some ended.octets ≡ (version == 2)
 

@@ -12,7 +12,8 @@ pub record Adds (old new : Line) (piece : List ℕ) : Type 0 where
   pub len : new.len ≡ old.len + length piece
   pub room : length new.buf.now ≡ length old.buf.now
 
--- these octets were written into the buffer from offset `at` to `end`; the octets before them and the length of the buffer are unchanged
+-- these octets were written into the buffer from offset `at` to `end`; the octets before them and
+-- the length of the buffer are unchanged
 pub record Puts (old new : List ℕ) (at end : ℕ) (piece : List ℕ) : Type 0 where
   pub text : take end new ≡ take at old ++ piece
   pub len : end ≡ at + length piece

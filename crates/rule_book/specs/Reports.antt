@@ -1,4 +1,5 @@
--- A report, its text, and the first fault of octets that are the text of no report (this project's profile).
+-- A report, its text, and the first fault of octets that are the text of no report (this project's
+-- profile).
 use Rattle.std.specs.Prelude.{◌≡◌, ◌≢◌, ℕ, ◌+◌, ◌^◌, ◌<◌, ◌≤◌, ◌==◌, if◌then◌else◌, List, [], ◌∷◌, ◌++◌, length, map, reverse, ◌⊎◌, IfSome}
 use Rattle.std.specs.List.{AllByRecursion, flat_map, onto_first, range_with_len}
 use Rattle.rule_book.specs.Entries.{IsOfVersion, PlainEntry, plain}
@@ -37,7 +38,8 @@ pub record EndedFits (ended : Ended) : Type 0 where
   pub era : ended.era < 2 ^ 32
   pub octets : IfSome ended.octets (λ octets. octets < 2 ^ 64)
 
--- the numbers of an entry are in the ranges of their types, and it has at most 16 rules and 4 ended eras
+-- the numbers of an entry are in the ranges of their types, and it has at most 16 rules and 4 ended
+-- eras
 pub record EntryFits (entry : PlainEntry) : Type 0 where
   pub number : entry.number < 2 ^ 32
   pub packets : entry.packets < 2 ^ 8
@@ -61,7 +63,8 @@ LastFits (Stop kind offset) = offset < 2 ^ 64
 abbrev pub AreNumbered : List PlainEntry → Type 0
 AreNumbered entries = map (λ entry. entry.number) entries ≡ range_with_len 1 (length entries)
 
--- a report: its numbers are in the ranges of their types, its entries are of its version, and they are numbered 1, 2 and so on
+-- a report: its numbers are in the ranges of their types, its entries are of its version, and they
+-- are numbered 1, 2 and so on
 pub record IsReport (report : PlainReport) : Type 0 where
   pub version : IsVersion report.version
   pub fit : AllByRecursion (IsEntryOf report.version) report.entries
@@ -73,7 +76,8 @@ abbrev pub lines : List ℕ → List (List ℕ)
 lines [] = []
 lines (octet ∷ octets) = if octet == 10 then (octet ∷ []) ∷ lines octets else onto_first octet (lines octets)
 
--- all lines are the first line of this version, those of these entries, numbered 1, 2 and so on, and the others
+-- all lines are the first line of this version, those of these entries, numbered 1, 2 and so on,
+-- and the others
 pub record IsReadTo (version : ℕ) (all : List (List ℕ)) (entries : List PlainEntry) (others : List (List ℕ)) : Type 0 where
   pub known : IsVersion version
   pub fit : AllByRecursion (IsEntryOf version) entries
@@ -140,6 +144,7 @@ EntriesDiffer = (one other : PlainEntry) → EntryFits one → EntryFits other �
 abbrev pub LastsDiffer : Type 0
 LastsDiffer = (one other : Last) → LastFits one → LastFits other → last_text one ≡ last_text other → one ≡ other
 
--- the text of a report is the first line, the lines of its entries in their order, and the last line
+-- the text of a report is the first line, the lines of its entries in their order, and the last
+-- line
 abbrev pub TextsAreInOrder : Type 0
 TextsAreInOrder = (report : PlainReport) → text_of report ≡ first_line report.version ++ flat_map entry_text report.entries ++ last_text report.last

@@ -1,4 +1,5 @@
--- The table of rules: a line for each rule, and the order in which they are tested and named (this project's profile).
+-- The table of rules: a line for each rule, and the order in which they are tested and named (this
+-- project's profile).
 use Prim.Native.String.{String}
 use Rattle.std.specs.Prelude.{◌≡◌, ℕ, ◌==◌, ◌&&◌, not, Bool, true, false, List, [], ◌∷◌, ◌++◌, map, filter, find, Option, Some, codes}
 use Rattle.std.specs.List.Sorted.{IsStrictlyIncreasing}
@@ -6,8 +7,9 @@ use Rattle.std.specs.Str.{bytes_eq}
 use Rattle.rule_book.specs.declared.rule.Rule.{Rule}
 use Rattle.rule_book.specs.declared.rule.Rule.TheVariants as rules
 
--- what a rule is on: the link, the IPv4 header, its protocol, a fragment, the time to live of a datagram, UDP or ICMP, the header of a TCP segment, the era of
--- a segment, or a frame that is too long for the link
+-- The subject of a rule: the link, the IPv4 header, its protocol, a fragment, the time to live of a
+-- datagram, or UDP or ICMP. Or it is the header of a TCP segment, the era of a segment, or a frame
+-- that is too long for the link.
 pub data Layer : Type 0 where
   link : Layer
   header : Layer
@@ -19,15 +21,17 @@ pub data Layer : Type 0 where
   era : Layer
   cut : Layer
 
--- what a rule does: it drops; it drops what is inbound, and is a note on what is outbound; it holds a fragment; or it rewrites what is written
+-- what a rule does: it drops; it drops what is inbound, and is a note on what is outbound; it holds
+-- a fragment; or it rewrites what is written
 pub data Kind : Type 0 where
   drops : Kind
   drops_inbound : Kind
   holds : Kind
   rewrites : Kind
 
--- a line of the table: the number of a rule, its name in the report, its layer and kind, whether it holds a payload, reassembles it from fragments, changes
--- it, or writes a probe instead of it or after it, and what the rule says in one sentence
+-- A line of the table: the number of a rule, its name in the report, its layer and kind, and what
+-- the rule says in one sentence. Also whether it holds a payload, reassembles it from fragments,
+-- changes it, or writes a probe instead of it or after it.
 pub record Line : Type 0 where
   pub number : ℕ
   pub name : List ℕ
@@ -121,7 +125,8 @@ sentence rule = (line_of rule).sentence
 abbrev pub layer_of : Rule → Layer
 layer_of rule = (line_of rule).layer
 
--- the rules that hold a payload, reassemble it from fragments, change it, or write a probe instead of it or after it
+-- the rules that hold a payload, reassemble it from fragments, change it, or write a probe instead
+-- of it or after it
 abbrev pub touches_payload : Rule → Bool
 touches_payload rule = (line_of rule).touches
 
@@ -134,7 +139,8 @@ is_noted _ = false
 abbrev pub notes_outbound : Rule → Bool
 notes_outbound rule = is_noted (line_of rule).kind
 
--- The rules that drop a packet are in one list a layer, each in the order of testing. E_MTU, which drops a frame when it would be written, is in `cut_rows`.
+-- The rules that drop a packet are in one list per layer, each in the order of testing. E_MTU,
+-- which drops a frame when it would be written, is in `cut_rows`.
 
 -- the drop rules on the link
 abbrev pub link_rows : List Rule
@@ -165,7 +171,8 @@ segment_rows = rules.TShort ∷ rules.THlen ∷ rules.TSum ∷ rules.TFlags ∷ 
 abbrev pub era_rows : List Rule
 era_rows = rules.TCold ∷ rules.TState ∷ rules.TSyn ∷ rules.TRst ∷ rules.TFull ∷ rules.TQuota ∷ rules.TRoom ∷ []
 
--- the rules that drop a packet before its frames are written, in the order of testing; E_MTU is not among them
+-- the rules that drop a packet before its frames are written, in the order of testing; E_MTU is not
+-- among them
 abbrev pub drop_rows : List Rule
 drop_rows = link_rows ++ header_rows ++ protocol_rows ++ fragment_rows ++ datagram_rows ++ segment_rows ++ era_rows
 
@@ -173,7 +180,8 @@ drop_rows = link_rows ++ header_rows ++ protocol_rows ++ fragment_rows ++ datagr
 abbrev pub header_fix_rows : List Rule
 header_fix_rows = rules.ITrail ∷ rules.IOpt ∷ rules.IRes ∷ []
 
--- the rules of a packet that is not dropped, before those of its TCP segment, in the order of the line
+-- the rules of a packet that is not dropped, before those of its TCP segment, in the order of the
+-- line
 abbrev pub fix_rows : List Rule
 fix_rows = header_fix_rows ++ rules.ITtl ∷ rules.FHeld ∷ rules.FDone ∷ rules.USumOut ∷ []
 
@@ -183,7 +191,8 @@ step_rows =
     rules.TSumOut ∷ rules.TRes ∷ rules.TUrg ∷ rules.TOpt ∷ rules.TStrip ∷ rules.CProbe ∷ rules.TOld ∷ rules.TWindow ∷ rules.TTurn ∷ rules.TEnd ∷
     rules.TClash ∷ []
 
--- the rules of a frame that is too long for the link, which are named behind all others; E_MTU drops it
+-- the rules of a frame that is too long for the link, which are named after all others; E_MTU drops
+-- it
 abbrev pub cut_rows : List Rule
 cut_rows = rules.ECut ∷ rules.EMtu ∷ []
 
@@ -262,7 +271,8 @@ NamesDiffer = (one other : Rule) → rule_name one ≡ rule_name other → one �
 abbrev pub Rises : List Rule → Type 0
 Rises rules = IsStrictlyIncreasing (map rule_number rules)
 
--- the numbers of the drop rules rise but for T_QUOTA (60), which is tested between T_FULL and T_ROOM
+-- the numbers of the drop rules rise but for T_QUOTA (60), which is tested between T_FULL and
+-- T_ROOM
 pub record RisesButForQuota (rows : List Rule) : Type 0 where
   pub before : List Rule
   pub behind : List Rule

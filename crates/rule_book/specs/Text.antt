@@ -1,4 +1,5 @@
--- The text of the report (this project's profile): a first line, a line for each entry and a last line, each with a line feed (10) at its end.
+-- The text of the report (this project's profile): a first line, a line for each entry and a last
+-- line, each with a line feed (10) at its end.
 use Rattle.std.specs.Prelude.{ℕ, ◌+◌, List, [], ◌∷◌, ◌++◌, Option, Some, None, codes, decimal}
 use Rattle.std.specs.List.{flat_map}
 use Rattle.rule_book.specs.Entries.{PlainEntry}
@@ -58,7 +59,7 @@ octets_part (Some octets) = 58 ∷ decimal octets
 abbrev pub ended_word : Ended → List ℕ
 ended_word ended = decimal ended.era ++ 58 ∷ (reason_word ended.reason ++ octets_part ended.octets)
 
--- this word behind its mark, `-` (45)
+-- this word after its mark, `-` (45)
 abbrev pub ended_part : Ended → List ℕ
 ended_part ended = part (45 ∷ ended_word ended)
 
@@ -66,7 +67,8 @@ ended_part ended = part (45 ∷ ended_word ended)
 abbrev pub front_text : PlainEntry → List ℕ
 front_text entry = decimal entry.number ++ part (side_word entry.side) ++ part (verdict_word entry.verdict) ++ part (decimal entry.packets)
 
--- the line of an entry, in each version, since the octets of an ended era are written exactly if it has them
+-- the line of an entry, in each version, since the octets of an ended era are written exactly if it
+-- has them
 abbrev pub entry_text : PlainEntry → List ℕ
 entry_text entry =
     decimal entry.number ++ part (side_word entry.side) ++ part (verdict_word entry.verdict) ++ part (decimal entry.packets)

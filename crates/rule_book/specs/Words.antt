@@ -15,7 +15,8 @@ abbrev pub joined : List (List ℕ) → List ℕ
 joined [] = []
 joined (word ∷ words) = word ++ flat_map part words
 
--- what a word behind the first four describes: a rule, the entry's era, the era that it began, an ended era
+-- what a word after the first four describes: a rule, the entry's era, the era that it began, an
+-- ended era
 pub data Mark : Type 0 where
   named : Rule → Mark
   belongs : ℕ → Mark
@@ -66,14 +67,14 @@ HasRoom entry (belongs era) = Unit {0}
 HasRoom entry (began era) = Unit {0}
 HasRoom entry (over ended) = length entry.ended < 4
 
--- the words of `rest` are the marks that the whole entry has beside those of this one
+-- the words of `rest` are the marks that the whole entry has besides those of this one
 pub record Awaits (entry : PlainEntry) (rest : List ℕ) (whole : PlainEntry) : Type 0 where
   pub marks : List Mark
   pub fit : AllByRecursion MarkFits marks
   pub text : rest ≡ joined (map mark_word marks)
   pub gives : with_marks entry marks ≡ whole
 
--- the entry without its marks: the first four words alone
+-- the entry without its marks: only the first four words
 abbrev pub bare : PlainEntry → PlainEntry
 bare entry =
     record {

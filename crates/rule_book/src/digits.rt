@@ -4,7 +4,7 @@ ghost use Rattle.rule_book.specs.Lines.{Puts};
 
 use itoa::write_digits;
 
-/// Writes the digits of a number from offset `at` on. Returns the offset behind them.
+/// Writes the digits of a number from offset `at` on. Returns the offset after them.
 pub fn put_decimal(buf: &mut [u8], at: usize, number: u64) -> usize
     requires { at + length (decimal number) ≤ length buf.old }
     ensures { Puts buf.old buf.new at result (decimal number) }

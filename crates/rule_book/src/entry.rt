@@ -44,11 +44,13 @@ pub enum Reason {
 pub struct Ended {
     pub era: u32,
     pub reason: Reason,
-    /// The number of offsets of its stream at which an octet was sent inwards. None in a report of version 1.
+    /// The number of offsets of its stream at which an octet was sent inwards. None in a report of
+    /// version 1.
     pub octets: Option<u64>,
 }
 
-/// Most rules that an engine names for a record. With `--mtu` the entry may get two more: `ECut` and `EMtu`.
+/// Most rules that an engine names for a record. With `--mtu` the entry may get two more: `ECut`
+/// and `EMtu`.
 pub const MAX_NAMED: usize = 14;
 
 /// The entry of one record.
@@ -56,7 +58,8 @@ pub const MAX_NAMED: usize = 14;
 pub struct Entry {
     /// The record's number, from 1.
     pub number: u32,
-    /// The direction of its packet. None of ARP, and if a rule drops the record before the direction is known.
+    /// The direction of its packet. None of ARP, and if a rule drops the record before the
+    /// direction is known.
     pub side: Option<Side>,
     pub verdict: Verdict,
     /// The number of frames written for it.
@@ -101,8 +104,9 @@ impl Reason {
     }
 }
 
-/// Writes the line of an entry, with its line feed, in version 2 of the report: each ended era has its octets. Returns
-/// the length of the line in octets. It is not inlined at its calls, so that the parts of a line are inlined in it.
+/// Writes the line of an entry, with its line feed, in version 2 of the report: each ended era has
+/// its octets. Returns the length of the line in octets. It is not inlined at its calls, so that
+/// the parts of a line are inlined in it.
 #[inline(never)]
 pub fn entry_line(entry: &Entry, buf: &mut [u8]) -> usize
     requires octets { IsOfVersion 2 (plain entry.now) }
@@ -143,8 +147,8 @@ fn put_front(line: &mut Line<'_>, entry: &Entry)
     line.small_number(entry.packets);
 }
 
-/// Writes the word for a side between two spaces. A constant text of 4 octets is written by one store, so ` out ` is
-/// written as 4 octets and 1.
+/// Writes the word for a side between two spaces. A constant text of 4 octets is written by one
+/// store, so ` out ` is written as 4 octets and 1.
 fn put_side(line: &mut Line<'_>, side: Option<Side>)
     requires { line.old.len + 5 ≤ length line.old.buf.now }
     ensures same_buffer { line.new.buf.ghost_name ≡ line.old.buf.ghost_name }

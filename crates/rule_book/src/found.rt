@@ -1,5 +1,5 @@
-//! Parsers of the lines of a report. An entry and a last line have one text each. So a line is parsed leniently, and
-//! the result is returned only if its text is exactly this line.
+//! Parsers of the lines of a report. An entry and a last line have one text each. So a line is
+//! parsed leniently, and the result is returned only if its text is exactly this line.
 ghost use Rattle.std.specs.Prelude.{◌≡◌, ◌≢◌, ◌↔◌, ℕ, ◌^◌, ◌<◌, List, [], ◌∷◌, ◌++◌, decimal, Option, Some, None, IfSome, IsSome, IsSomeAnd, IsTrue, MatchOption};
 ghost use Rattle.rule_book.specs.Entries.{IsOfVersion, PlainEntry, plain};
 ghost use Rattle.rule_book.specs.Reports.{EndedFits, EntryFits, IsEntryOf, LastFits};
@@ -15,8 +15,9 @@ use crate::{Ended, Entry, Last, Reason, Rule, StopKind, Verdict, last_line};
 use arrayvec::ArrayVec;
 use wire_base::Side;
 
-/// Parses the line of an entry, with its line feed, of a report of this version. In version 2 each ended era has its
-/// octets, in any other version none has. Returns None exactly if the line is the text of no such entry.
+/// Parses the line of an entry, with its line feed, of a report of this version. In version 2 each
+/// ended era has its octets, in any other version none has. Returns None exactly if the line is the
+/// text of no such entry.
 pub fn read_entry(line: &[u8], version: u8) -> Option<Entry>
     ensures { MatchOption result ((entry : PlainEntry) → IsEntryOf version entry → line.now ≢ entry_text entry) (λ entry. IsEntryOf version (plain entry) × (line.now ≡ entry_text (plain entry))) }
 {
@@ -40,8 +41,8 @@ fn is_of_version(entry: &Entry, version: u8) -> bool
         .all(|ended| ended.octets.is_some() == (version == 2))
 }
 
-/// Parses the last line of a report, `end` or `stop`, with its line feed; it is the same in each version. Returns None
-/// exactly if the line is the text of neither.
+/// Parses the last line of a report, `end` or `stop`, with its line feed; it is the same in each
+/// version. Returns None exactly if the line is the text of neither.
 pub fn read_last(line: &[u8]) -> Option<Last>
     ensures { MatchOption result ((last : Last) → LastFits last → line.now ≢ last_text last) (λ last. LastFits last × (line.now ≡ last_text last)) }
 {
@@ -113,7 +114,8 @@ fn without_feed(line: &[u8]) -> &[u8]
     }
 }
 
-/// Returns the side of a word; the word `-` is that of no side. Returns None if the word is neither.
+/// Returns the side of a word; the word `-` is that of no side. Returns None if the word is
+/// neither.
 fn side_of(word: &[u8]) -> Option<Option<Side>>
     ensures { (side : Option Side) → word.now ≡ side_word side → result ≡ Some side }
 {
@@ -125,7 +127,8 @@ fn side_of(word: &[u8]) -> Option<Option<Side>>
     }
 }
 
-/// Adds to an entry what the words behind the fourth describe. Returns None if a word is malformed or does not fit.
+/// Adds to an entry what the words after the fourth describe. Returns None if a word is malformed
+/// or does not fit.
 fn add_marks(entry: &mut Entry, words: &[u8]) -> Option<()>
     ensures adds { (whole : PlainEntry) → EntryFits whole → Awaits (plain entry.old) words.now whole → IsSome result × (plain entry.new ≡ whole) }
     ensures fits { EntryFits (plain entry.old) → EntryFits (plain entry.new) }
@@ -139,7 +142,8 @@ fn add_marks(entry: &mut Entry, words: &[u8]) -> Option<()>
     Some(())
 }
 
-/// Adds to an entry what a word describes: a rule, the entry's era, the era that it began, or one that ended.
+/// Adds to an entry what a word describes: a rule, the entry's era, the era that it began, or one
+/// that ended.
 fn add_mark(entry: &mut Entry, word: &[u8]) -> Option<()>
     ensures adds { (mark : Mark) → MarkFits mark → HasRoom (plain entry.old) mark → word.now ≡ mark_word mark → IsSome result × (plain entry.new ≡ with_mark (plain entry.old) mark) }
     ensures fits { EntryFits (plain entry.old) → EntryFits (plain entry.new) }
@@ -153,7 +157,8 @@ fn add_mark(entry: &mut Entry, word: &[u8]) -> Option<()>
     Some(())
 }
 
-/// Parses the word of an ended era behind its mark: its number, the reason and, if there is a third part, its octets.
+/// Parses the word of an ended era after its mark: its number, the reason and, if there is a third
+/// part, its octets.
 fn ended_of(word: &[u8]) -> Option<Ended>
     ensures value { (ended : Ended) → EndedFits ended → word.now ≡ ended_word ended → result ≡ Some ended }
     ensures fits { IfSome result EndedFits }
@@ -166,7 +171,7 @@ fn ended_of(word: &[u8]) -> Option<Ended>
     })
 }
 
-/// Cuts the word of an ended era into its three parts; the third is empty if it is not there.
+/// Cuts the word of an ended era into its three parts; the third is empty if it is missing.
 fn parts_of(word: &[u8]) -> (&[u8], &[u8], &[u8])
     ensures { (ended : Ended) → EndedFits ended → word.now ≡ ended_word ended → HasParts ended result.0.now result.1.now result.2.now }
 {

@@ -30,8 +30,8 @@ pub enum StopKind {
     Block,
 }
 
-/// The last line of a report: the numbers of records and of frames written, or the reason why the run stopped and the
-/// offset in octets of the head or record at which it stopped.
+/// The last line of a report: the numbers of records and of frames written, or the reason why the
+/// run stopped and the offset in octets of the head or record at which it stopped.
 #[derive(Clone, Copy, Debug, PartialEq, Eq)]
 pub enum Last {
     End { records: u32, packets: u64 },

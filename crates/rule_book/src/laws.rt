@@ -20,14 +20,15 @@ pub fn lists_are_the_table()
     ensures { ListsAreTheTable }
 {}
 
-/// States that rules are named in the order of their numbers, and that drop rules are tested in this order except for
-/// `TQuota`.
+/// States that rules are named in the order of their numbers, and that drop rules are tested in
+/// this order except for `TQuota`.
 pub fn numbers_rise()
     ensures drops { RisesButForQuota drop_rows }
     ensures named { Rises (fix_rows ++ step_rows ++ cut_rows) }
 {}
 
-/// States that no text is that of two reports, no line that of two entries, and no last line that of two ends of a run.
+/// States that no text is that of two reports, no line that of two entries, and no last line that
+/// of two ends of a run.
 pub fn texts_name_reports()
     ensures reports { TextsDiffer }
     ensures entries { EntriesDiffer }

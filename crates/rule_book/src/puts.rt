@@ -1,4 +1,5 @@
-//! Functions that write octets into a buffer. Each returns the offset behind the octets that it wrote.
+//! Functions that write octets into a buffer. Each returns the offset after the octets that it
+//! wrote.
 ghost use Rattle.std.specs.Prelude.{◌≡◌, ◌+◌, ◌<◌, ◌≤◌, [], ◌∷◌, length};
 ghost use Rattle.rule_book.specs.Lines.{Puts};
 
@@ -23,7 +24,8 @@ pub fn put_octet(buf: &mut [u8], at: usize, octet: u8) -> usize
     at + 1
 }
 
-/// Writes a word from offset `at` on. A word of 4 to 16 octets takes two copies of constant size and no call.
+/// Writes a word from offset `at` on. A word of 4 to 16 octets takes two copies of constant size
+/// and no call.
 #[inline]
 pub fn put_word(buf: &mut [u8], at: usize, word: &[u8]) -> usize
     requires { at + length word.now ≤ length buf.old }

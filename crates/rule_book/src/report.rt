@@ -18,12 +18,14 @@ pub struct Report {
     pub version: u8,
 }
 
-/// Parses a report of version 1 or 2. Does not compare the numbers in the last line with the entries.
+/// Parses a report of version 1 or 2. Does not compare the numbers in the last line with the
+/// entries.
 pub fn read_report(alloc: Global, bytes: &[u8]) -> Result<Report, LineFault>
     ensures ok { IfOk result (λ report. IsReport (plain_report report) × (bytes.now ≡ text_of (plain_report report))) }
     ensures read { (report : PlainReport) → IsReport report → bytes.now ≡ text_of report → MatchResult result (λ found. plain_report found ≡ report) (λ fault. fault ≡ LineFault.NoMemory) }
 
-    // The first fault is returned, or that memory could not be allocated; the latter only if the first line is right.
+    // The first fault is returned, or that memory could not be allocated; the latter only if the
+    // first line is right.
     ensures first { (result ≡ Err LineFault.First) ↔ HasFault (lines bytes.now) LineFault.First }
     ensures err { IfErr result (λ fault. (fault ≡ LineFault.NoMemory) ⊎ HasFault (lines bytes.now) fault) }
     ensures fault { (fault : LineFault) → HasFault (lines bytes.now) fault → MatchResult result (λ _. ⊥) (λ found. (found ≡ LineFault.NoMemory) ⊎ (found ≡ fault)) }
@@ -32,7 +34,7 @@ pub fn read_report(alloc: Global, bytes: &[u8]) -> Result<Report, LineFault>
     read_lines(alloc, version, rest)
 }
 
-/// Parses the first line. Returns its version and the octets behind it, or None if it is malformed.
+/// Parses the first line. Returns its version and the octets after it, or None if it is malformed.
 fn behind_first(bytes: &[u8]) -> Option<(u8, &[u8])>
     ensures { MatchOption result (HasFault (lines bytes.now) LineFault.First) (λ found. IsVersion found.0 × (lines bytes.now ≡ first_line found.0 ∷ lines found.1.now)) }
 {
@@ -46,7 +48,7 @@ fn behind_first(bytes: &[u8]) -> Option<(u8, &[u8])>
     }
 }
 
-/// Parses the lines behind the first one, of a report of this version.
+/// Parses the lines after the first one, of a report of this version.
 fn read_lines(alloc: Global, version: u8, text: &[u8]) -> Result<Report, LineFault>
     requires { IsVersion version }
     ensures ok { IfOk result (λ report. IsReport (plain_report report) × (first_line version ∷ lines text.now ≡ lines_of (plain_report report))) }
@@ -78,8 +80,8 @@ fn read_lines(alloc: Global, version: u8, text: &[u8]) -> Result<Report, LineFau
     }
 }
 
-/// Splits off the next line with its line feed; without a line feed the line is all of the text. Returns the line and
-/// the octets behind it, or None if the text is empty.
+/// Splits off the next line with its line feed; without a line feed the line is all of the text.
+/// Returns the line and the octets after it, or None if the text is empty.
 fn next_line(text: &[u8]) -> Option<(&[u8], &[u8])>
     ensures { MatchOption result (text.now ≡ []) (λ parts. (lines text.now ≡ parts.0.now ∷ lines parts.1.now) × (length parts.1.now < length text.now)) }
 {

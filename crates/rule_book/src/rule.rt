@@ -4,9 +4,11 @@ ghost use Rattle.rule_book.specs.Rules.{rule_name, rule_number, sentence};
 ghost use Rattle.std.specs.Str.{bytes_eq};
 ghost use Rattle.rule_book.specs.declared.rule.Rule.{Rule};
 
-/// A rule: the reason why a packet is dropped (those up to `TRoom`, and `TQuota`, `EMtu`), or what becomes of one that
-/// is not. The first letter names its subject: L the link, I the IPv4 header, P the protocol, F fragments, U UDP,
-/// M ICMP, T TCP, C the connection, E frames that are too long for the link. No rule has the number 59.
+/// A rule: the reason why a packet is dropped (those up to `TRoom`, and `TQuota`, `EMtu`), or what
+/// becomes of one that is not. The first letter names its subject: L the link, I the IPv4 header, P
+/// the protocol, F fragments, U UDP, M ICMP, T TCP, C the connection, E frames too long for the
+/// link. No rule has the number 59. Numbers are 1 to 58 and 60 to 62. `LSnap` is the rule L_SNAP,
+/// and so on.
 #[derive(Clone, Copy, Debug, Default, PartialEq, Eq)]
 pub enum Rule {
     /// The capture has only a part of the frame.
@@ -50,7 +52,8 @@ pub enum Rule {
     FEnd,
     /// A fragment with an octet that differs from the one held at its offset.
     FClash,
-    /// A fragment that would begin a datagram while fragments of the maximum number of others are held.
+    /// A fragment that would begin a datagram while fragments of the maximum number of others are
+    /// held.
     FMany,
     /// A fragment that needs more cells than are free.
     FRoom,
@@ -66,7 +69,8 @@ pub enum Rule {
     MSum,
     /// An ICMP type that is not 0, 3, 8, 11, 12, 13 or 14.
     MType,
-    /// An inbound ICMP error that quotes no packet from a trusted to an untrusted address, or a segment without a live era.
+    /// An inbound ICMP error that quotes no packet from a trusted to an untrusted address, or a
+    /// segment without a live era.
     MQuote,
     /// Fewer than 20 octets for the TCP header.
     TShort,
@@ -82,16 +86,16 @@ pub enum Rule {
     TCold,
     /// An inbound segment that does not fit an era that is not open yet.
     TState,
-    /// An inbound SYN with another sequence number than the one before its era's first octet.
+    /// An inbound SYN whose sequence number is not the one before its era's first octet.
     TSyn,
     /// An inbound RST outside of what its era accepts.
     TRst,
-    /// An era would begin while the table is full and no era can be evicted. On an outbound packet it is a note, and
-    /// drops nothing.
+    /// An era would begin while the table is full and no era can be evicted. On an outbound packet
+    /// it is a note, and drops nothing.
     TFull,
     /// Inbound octets that need more cells than are free.
     TRoom,
-    /// Octets behind the total length are cut off.
+    /// Octets after the total length are cut off.
     ITrail,
     /// IPv4 options are removed.
     IOpt,
@@ -111,7 +115,8 @@ pub enum Rule {
     TRes,
     /// The urgent flag and pointer are cleared.
     TUrg,
-    /// TCP options that are not kept are replaced by no-operations, and octets behind the end option are cleared.
+    /// TCP options that are not kept are replaced by no-operations, and octets after the end option
+    /// are cleared.
     TOpt,
     /// The payload of an inbound SYN or RST is cut off.
     TStrip,
@@ -127,7 +132,8 @@ pub enum Rule {
     TEnd,
     /// Octets that differ from those first sent at their offsets are replaced by them.
     TClash,
-    /// Inbound octets with which the connection would have more cells than its quota. Tested before `TRoom`.
+    /// Inbound octets with which the connection would have more cells than its quota. Tested before
+    /// `TRoom`.
     TQuota = 60,
     /// A TCP frame that is too long for the link is cut into segments.
     ECut,
@@ -208,7 +214,8 @@ impl Rule {
         self as u8
     }
 
-    /// Returns the line of the rule in the table: its name in the report, and what it says in one sentence.
+    /// Returns the line of the rule in the table: its name in the report, and what it says in one
+    /// sentence.
     #[rattlefmt::skip]
     fn line(self) -> (&'static str, &'static str)
         ensures name { result.0.now ≡ rule_name self }
@@ -303,8 +310,8 @@ impl Rule {
         ALL.iter().copied().find(|rule| rule.has_name(text))
     }
 
-    // Returns whether this is the name of the rule. Nearly all names are told apart by their length
-    // or their last octet, which needs no call.
+    // Returns whether this is the name of the rule. Nearly all names differ by their length or
+    // their last octet, which needs no call.
     #[inline(always)]
     fn has_name(self, text: &[u8]) -> bool
         ensures { result ≡ bytes_eq (rule_name self) text.now }

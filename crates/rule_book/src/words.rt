@@ -4,8 +4,8 @@ ghost use Rattle.std.specs.List.{after_first, before_first, position_or_len};
 
 use wire_base::read_number;
 
-/// Cuts a text at the first octet with this value. Returns what precedes and what follows it, or all of the text and
-/// nothing if no octet has it.
+/// Cuts a text at the first octet with this value. Returns what precedes and what follows it, or
+/// all of the text and nothing if no octet has it.
 pub fn cut(text: &[u8], octet: u8) -> (&[u8], &[u8])
     ensures front { result.0.now ≡ before_first (λ other. other == octet) text.now }
     ensures behind { result.1.now ≡ after_first (λ other. other == octet) text.now }
@@ -15,7 +15,8 @@ pub fn cut(text: &[u8], octet: u8) -> (&[u8], &[u8])
     (&text[..at], &text[end..])
 }
 
-/// Returns the index of the first octet with this value, or the length of the text if no octet has it.
+/// Returns the index of the first octet with this value, or the length of the text if no octet has
+/// it.
 pub fn place_of(text: &[u8], octet: u8) -> usize
     ensures place { result ≡ position_or_len (λ other. other == octet) text.now }
     ensures within { result ≤ length text.now }

@@ -14,7 +14,7 @@ written-below total = grind (arith, nat_tests)
 pub is_right-written : (total : ℕ) → is_right (total + written (checksum_for total)) ≡ true
 is_right-written total = grind (arith, nat_tests)
 
--- the sum of a message with its checksum rewritten is right
+-- a message with its checksum rewritten has a right checksum
 pub sum_is_right-mended : (pseudo : ℕ) (message : List ℕ) → 8 ≤ length message → sum_is_right (mended pseudo message) pseudo ≡ true
 sum_is_right-mended pseudo message whole =
     let rest = pseudo + word_sum (with_u16 message 6 0) in

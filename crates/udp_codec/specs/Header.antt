@@ -16,7 +16,8 @@ fields_of message =
       sum = udp.checksum message;
     }
 
--- the first fault that holds, in the order of testing (this project's profile); `pseudo` is the sum of the pseudo-header
+-- the first fault that holds, in the order of testing (this project's profile); `pseudo` is the sum
+-- of the pseudo-header
 abbrev pub fault_of : (pseudo : ℕ) → List ℕ → Option UdpFault
 fault_of pseudo message =
     if udp.is_short message then Some Short

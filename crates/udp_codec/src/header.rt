@@ -18,7 +18,9 @@ pub struct Udp {
     pub sum: u16,
 }
 
-/// Reasons why octets are not a UDP message, in the order of the tests.
+/// Reasons why octets are not a UDP message, in the order of the tests. `Short`: fewer than 8
+/// octets. `Length`: the length field is not the length of the message. `Sum`: the checksum is
+/// neither 0 nor right.
 #[derive(Clone, Copy, Debug, PartialEq, Eq, Error)]
 pub enum UdpFault {
     #[error("fewer than 8 octets")]

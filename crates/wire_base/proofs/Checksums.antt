@@ -1,4 +1,5 @@
--- Sums of words: which numbers count as the same sum, and a checksum that is written into its field.
+-- Sums of words: which numbers count as the same sum, and a checksum that is written into its
+-- field.
 use Rattle.std.proofs.Common.{zero-le, ◌≡◌, ℕ, zero, suc, ◌+◌, List, [], ◌∷◌, drop, refl, arith, ◌≤◌, ◌<◌, length, slice_index, ◌*◌, ap, true}
 use Rattle.std.proofs.lemmas.List.{drop_all}
 use Rattle.std.proofs.lemmas.Bool.Decides.{nat_tests}

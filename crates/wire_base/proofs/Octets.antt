@@ -1,4 +1,5 @@
--- Octets that are written at an offset, the numbers of two and of four octets, and what a search for the first separator finds.
+-- Octets that are written at an offset, the numbers of two and of four octets, and what a search
+-- for the first separator finds.
 use Rattle.std.proofs.Common.{◌≡◌, ℕ, ◌+◌, ◌-◌, ◌≤◌, List, [], ◌++◌, length, take, drop, refl, ap, ◌∙◌, arith, Bool, true, false, cond, Option, Some, None, ◌<◌, ◌*◌, ◌/◌, ◌%◌, ◌^◌}
 use Rattle.std.proofs.lemmas.List.{append-nil, append_assoc, take_rest, drop-drop, drop_all}
 

@@ -1,5 +1,6 @@
--- One walk over a list of options, octet by octet: `left` is the number of octets that still belong to the option before. Its steps are stated by the offset
--- `at` reached: the octets of the area from there on are still to be read.
+-- One walk over a list of options, octet by octet: `left` is the number of octets that still belong
+-- to the option before. Its steps are stated by the offset `at` reached: the octets of the area
+-- from there on are still to be read.
 use Rattle.std.proofs.Common.{◌≡◌, length-drop, ℕ, zero, suc, ◌+◌, ◌-◌, ◌≤◌, ◌<◌, ◌&&◌, ◌||◌, ◌==◌, nat_le, min, Bool, true, false, Option, Some, None, List, [], ◌∷◌, length, get_or, drop, refl, ap, ◌∙◌, arith, ◌⊎◌, not, nat_lt, sym, ⊎_elim}
 use Rattle.std.proofs.Math.Bool.{and-false}
 use Rattle.std.proofs.Math.Dec.{eqb-suc-zero}
@@ -8,7 +9,8 @@ use Rattle.std.proofs.lemmas.List.{drop_more, drop-drop, get_or-drop}
 use Rattle.std.proofs.lemmas.Bool.Decides.{nat_tests}
 use Rattle.wire_base.specs.Options.{is_route}
 
--- before the end option or the end of the area every option has a length octet of at least 2 and lies inside the area
+-- before the end option or the end of the area every option has a length octet of at least 2 and
+-- lies inside the area
 abbrev pub formed_from : (left : ℕ) → List ℕ → Bool
 formed_from left [] = left == 0
 formed_from (suc left) (x ∷ octets) = formed_from left octets
@@ -24,7 +26,8 @@ formed_from zero (kind ∷ octets) =
       ]
     ]
 
--- before the end option there is an option, other than a no-operation, of a kind that passes the test
+-- before the end option there is an option, other than a no-operation, of a kind that passes the
+-- test
 abbrev pub has_from : (test : ℕ → Bool) → (left : ℕ) → List ℕ → Bool
 has_from test left [] = false
 has_from test (suc left) (x ∷ octets) = has_from test left octets
@@ -178,7 +181,8 @@ scale_from-option area at size e two inside other another =
     ∙ scale_from-skip (size - 1) octets (omega arith)
     ∙ ap (scale_from 0) (drop-option area at size (omega arith))
 
--- the size of an option where at least two octets are left: 1 for a no-operation, and else its length
+-- the size of an option where at least two octets are left: 1 for a no-operation, and else its
+-- length
 pub record IsSize (area : List ℕ) (at size : ℕ) : Type 0 where
   pub begins : at + 2 ≤ length area
   pub some : 1 ≤ get_or area at 0
@@ -213,7 +217,7 @@ formed-refused area at size is refused =
     (cases_lt size 2))
     (cases_lt (get_or area at 0) 2)
 
--- an option is a source route or not, and the walk goes on behind it
+-- an option is a source route or not, and the walk goes on after it
 pub route-step : (area : List ℕ) (at size : ℕ) → IsSize area at size → (2 ≤ get_or area at 0 → 2 ≤ size) → at + size ≤ length area → has_from is_route 0 (drop at area) ≡ (is_route (get_or area at 0) || has_from is_route 0 (drop (at + size) area))
 route-step area at size is long inside =
     let begins = is.begins in

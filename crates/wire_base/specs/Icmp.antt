@@ -12,6 +12,6 @@ code m = slice_index m 1
 abbrev pub is_short : List ℕ → Bool
 is_short m = nat_lt (length m) 8
 
--- the sum over the whole message is wrong
+-- the checksum over the whole message is wrong
 abbrev pub has_wrong_sum : List ℕ → Bool
 has_wrong_sum m = not (sum_is_right m 0)

@@ -1,4 +1,5 @@
--- The IPv4 header (RFC 791 section 3.1): its fields at their offsets in the octets of a packet, and the parts of a packet. Octets past the end read as 0.
+-- The IPv4 header (RFC 791 section 3.1): its fields at their offsets in the octets of a packet, and
+-- the parts of a packet. Octets past the end read as 0.
 use Rattle.std.specs.Prelude.{ℕ, ◌*◌, ◌/◌, ◌%◌, ◌==◌, ◌||◌, nat_lt, not, Bool, List, length, take, drop, slice_index}
 use Rattle.wire_base.specs.Numbers.{u16_at, u32_at}
 use Rattle.wire_base.specs.Sums.{sum_is_right}
@@ -82,7 +83,7 @@ has_bad_header_length p = nat_lt (header_length p) 20 || nat_lt (length p) (head
 abbrev pub has_bad_total_length : List ℕ → Bool
 has_bad_total_length p = nat_lt (total_length p) (header_length p) || nat_lt (length p) (total_length p)
 
--- the sum over the header is wrong
+-- the header's checksum is wrong
 abbrev pub has_wrong_sum : List ℕ → Bool
 has_wrong_sum p = not (sum_is_right (header p) 0)
 

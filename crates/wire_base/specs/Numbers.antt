@@ -1,4 +1,5 @@
--- Numbers in octets, most significant octet first (RFC 791, appendix B). Octets past the end read as 0.
+-- Numbers in octets, most significant octet first (RFC 791, appendix B). Octets past the end read
+-- as 0.
 use Rattle.std.specs.Prelude.{ℕ, ◌+◌, ◌*◌, List, ◌++◌, take, drop, slice_index}
 use Rattle.std.specs.Int.{w16, w32, to_be_bytes}
 

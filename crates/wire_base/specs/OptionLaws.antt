@@ -1,4 +1,5 @@
--- Laws of the list of options: it has every octet of the area, and the definitions over it give the results of cases worked by hand.
+-- Laws of the list of options: it has every octet of the area, and the definitions over it give the
+-- results of cases worked by hand.
 use Rattle.std.specs.Prelude.{◌≡◌, ℕ, ◌+◌, ◌==◌, ◌&&◌, Bool, true, false, List, [], ◌∷◌, ◌++◌, length, map, Option, Some, None, if◌then◌else◌}
 use Rattle.std.specs.List.{flat_map}
 use Rattle.wire_base.specs.Options.{Listed, options_of, are_well_formed, has_route, scale_of, cleaned}
@@ -19,7 +20,8 @@ FollowEachOther = (area : List ℕ) → follow_from 0 (options_of area).options 
 abbrev pub route_in : List ℕ → Option Bool
 route_in area = if are_well_formed area then Some (has_route area) else None
 
--- areas of IPv4 headers: options other than routes, routes, octets after the end option, and lengths that are missing, too small or too large
+-- areas of IPv4 headers: options other than routes, routes, octets after the end option, and
+-- lengths that are missing, too small or too large
 abbrev pub routes : List (List ℕ × Option Bool)
 routes =
     ([], Some false)
@@ -42,7 +44,8 @@ routes =
     ∷ (7 ∷ 255 ∷ 0 ∷ 0 ∷ [], None)
     ∷ []
 
--- areas with their window scales: the first of two; one of another length, and of another kind; after the end option; above 14
+-- areas with their window scales: the first of two; one of another length, and of another kind;
+-- after the end option; above 14
 abbrev pub scales : List (List ℕ × Option ℕ)
 scales =
     ([], None)
@@ -57,8 +60,9 @@ scales =
     ∷ (0 ∷ 3 ∷ 3 ∷ 7 ∷ [], None)
     ∷ []
 
--- whether the segment is a SYN, its area, and the cleaned area: known kinds and an unknown one; kinds of a SYN on another segment; wrong lengths; a second
--- option of a kind, also after one that was not kept; octets after the end option
+-- Whether the segment is a SYN, its area, and the cleaned area. Known kinds and an unknown one;
+-- kinds of a SYN on another segment; wrong lengths. A second option of a kind, also after one that
+-- was not kept; octets after the end option.
 abbrev pub cleanings : List (Bool × List ℕ × List ℕ)
 cleanings =
     (false, [], [])

@@ -1,10 +1,12 @@
--- Lists of options, which IP and TCP encode alike (RFC 791 section 3.1, RFC 9293 section 3.1): kind 0 ends the list, kind 1 is a no-operation of one octet, and
--- every other option has a length octet that counts the whole option.
+-- Lists of options, which IP and TCP encode alike (RFC 791 section 3.1, RFC 9293 section 3.1). Kind
+-- 0 ends the list, kind 1 is a no-operation of one octet, and every other option has a length octet
+-- that counts the whole option.
 use Rattle.std.specs.Prelude.{ℕ, zero, suc, ◌-◌, ◌==◌, ◌&&◌, ◌||◌, nat_le, nat_lt, not, min, Bool, true, false, List, [], ◌∷◌, ◌++◌, length, take, replicate, slice_index, Option, option_map, if◌then◌else◌}
 use Rattle.std.specs.List.{find, flat_map, list_all, list_any}
 use Rattle.wire_base.specs.declared.limits.TheConstants.{MAX_SHIFT}
 
--- an option: its kind, its octets as far as the area has them, the kind first, and its offset in the area
+-- an option: its kind, its octets as far as the area has them, the kind first, and its offset in
+-- the area
 pub record Listed : Type 0 where
   pub kind : ℕ
   pub octets : List ℕ
@@ -19,11 +21,13 @@ pub record OptionList : Type 0 where
 abbrev pub with_first : Listed → OptionList → OptionList
 with_first option list = record { options = option ∷ list.options; behind = list.behind }
 
--- the number of octets of an option after its kind: 0 for a no-operation, else one less than its length octet, which is the first of these octets
+-- the number of octets of an option after its kind: 0 for a no-operation, else one less than its
+-- length octet, which is the first of these octets
 abbrev pub more_octets : (kind : ℕ) → List ℕ → ℕ
 more_octets kind octets = if kind == 1 then 0 else slice_index octets 0 - 1
 
--- the options from the offset `place` on, in one walk over the octets; `left` is the number of octets that still belong to the option before
+-- the options from the offset `place` on, in one walk over the octets; `left` is the number of
+-- octets that still belong to the option before
 abbrev pub options_from : (place left : ℕ) → List ℕ → OptionList
 options_from place left [] = record { options = []; behind = [] }
 options_from place (suc left) (x ∷ octets) = options_from (suc place) left octets
@@ -49,7 +53,8 @@ size_of option = slice_index option.octets 1
 abbrev pub is_whole : Listed → Bool
 is_whole option = (option.kind == 1) || (nat_le 2 (size_of option) && (length option.octets == size_of option))
 
--- before the end option or the end of the area every option has a length octet of at least 2 and lies inside the area
+-- before the end option or the end of the area every option has a length octet of at least 2 and
+-- lies inside the area
 abbrev pub are_well_formed : List ℕ → Bool
 are_well_formed area = list_all is_whole (options_of area).options
 
@@ -73,8 +78,9 @@ shift_of option = min MAX_SHIFT (slice_index option.octets 2)
 abbrev pub scale_of : List ℕ → Option ℕ
 scale_of area = option_map shift_of (find is_scale (options_of area).options)
 
--- a TCP option of this kind and length may be kept: on a SYN maximum segment size, window scale and SACK permitted; on every segment SACK of one to four
--- blocks, and timestamps (RFC 9293 section 3.2, RFC 7323, RFC 2018; which are kept is this project's profile)
+-- A TCP option of this kind and length may be kept (RFC 9293 section 3.2, RFC 7323, RFC 2018; the
+-- choice is this project's profile). On a SYN: maximum segment size, window scale and SACK
+-- permitted. On every segment: SACK of one to four blocks, and timestamps.
 abbrev pub may_be_kept : (syn : Bool) (kind size : ℕ) → Bool
 may_be_kept syn kind size =
     (syn && (((kind == 2) && (size == 4)) || ((kind == 3) && (size == 3)) || ((kind == 4) && (size == 2))))

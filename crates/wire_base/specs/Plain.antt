@@ -1,4 +1,5 @@
--- Packets that every host of the receiver family reads alike (this project's profile, over RFC 791, RFC 768, RFC 792 and RFC 9293).
+-- Packets that every host of the receiver family reads alike (this project's profile, over RFC 791,
+-- RFC 768, RFC 792 and RFC 9293).
 use Rattle.std.specs.Prelude.{◌≡◌, ℕ, ◌<◌, ◌≤◌, ◌⊎◌, ◌||◌, true, false, List, [], length}
 use Rattle.wire_base.specs.Sums.{sum_is_right, pseudo_sum}
 use Rattle.wire_base.specs.Ipv4 as ip
@@ -10,8 +11,9 @@ use Rattle.wire_base.specs.Options.{are_well_formed, cleaned}
 abbrev pub pseudo_of : List ℕ → ℕ
 pseudo_of p = pseudo_sum (ip.source p) (ip.destination p) (ip.protocol p) (length (ip.payload p))
 
--- a TCP segment with a whole header, a right sum, legal flags and well-formed options that cleaning does not change, without reserved bits, URG or urgent
--- pointer, and without payload on a SYN or RST
+-- a TCP segment with a whole header, a right checksum, legal flags and well-formed options that
+-- cleaning does not change, without reserved bits, URG or urgent pointer, and without payload on a
+-- SYN or RST
 pub record IsPlainTcp (p : List ℕ) : Type 0 where
   pub whole_header : 20 ≤ length (ip.payload p)
   pub data_offset : 20 ≤ tcp.header_length (ip.payload p)
@@ -41,7 +43,8 @@ pub record IsPlainMessage (p : List ℕ) : Type 0 where
   pub tcp : ip.protocol p ≡ 6 → IsPlainTcp p
   pub udp : ip.protocol p ≡ 17 → IsPlainUdp p
 
--- a packet of version 4 that is no fragment and ends at its total length, with a header of 20 octets, the reserved flag clear, and a right sum over the header
+-- a packet of version 4 that is no fragment and ends at its total length, with a header of 20
+-- octets, the reserved flag clear, and a right header checksum
 pub record IsPlainHeader (p : List ℕ) : Type 0 where
   pub whole_header : 20 ≤ length p
   pub version : ip.version p ≡ 4
@@ -52,7 +55,8 @@ pub record IsPlainHeader (p : List ℕ) : Type 0 where
   pub fragment_offset : ip.fragment_offset p ≡ 0
   pub sum : sum_is_right (ip.header p) 0 ≡ true
 
--- a packet that is plain for hosts behind at most `hops` routers: its time to live is above `hops`, and its header and payload are plain
+-- a packet that is plain for hosts behind at most `hops` routers: its time to live is above `hops`,
+-- and its header and payload are plain
 pub record Plain (hops : ℕ) (p : List ℕ) : Type 0 where
   pub header : IsPlainHeader p
   pub passes : hops < ip.time_to_live p

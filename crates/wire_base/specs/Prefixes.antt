@@ -1,4 +1,5 @@
--- Address prefixes and their text: four numbers with dots, a slash and a length (RFC 4632 section 3.1; the counts of digits are this project's profile).
+-- Address prefixes and their text: four numbers with dots, a slash and a length (RFC 4632 section
+-- 3.1; the counts of digits are this project's profile).
 use Rattle.std.specs.Prelude.{ℕ, ◌+◌, ◌-◌, ◌*◌, ◌/◌, ◌^◌, ◌==◌, ◌&&◌, ◌||◌, nat_lt, nat_le, Bool, List, length, fold, Result, Ok, Err, if◌then◌else◌}
 use Rattle.std.specs.List.{list_all, before_first, after_first}
 use Rattle.wire_base.specs.declared.prefix.Prefix.{Prefix}
@@ -28,7 +29,8 @@ before c text = before_first (λ x. x == c) text
 abbrev pub after : ℕ → List ℕ → List ℕ
 after c text = after_first (λ x. x == c) text
 
--- the prefix of four numbers and a length, or the first fault: another shape, a number over 255, a length over 32
+-- the prefix of four numbers and a length, or the first fault: another shape, a number over 255, a
+-- length over 32
 abbrev pub prefix_of_parts : (a b c d size : List ℕ) → Result Prefix PrefixFault
 prefix_of_parts a b c d size =
     if is_number 3 a && is_number 3 b && is_number 3 c && is_number 3 d && is_number 2 size then
@@ -37,7 +39,8 @@ prefix_of_parts a b c d size =
     else Ok (record { addr = record { 0 = 16777216 * number_of a + 65536 * number_of b + 256 * number_of c + number_of d }; len = number_of size }))
     else Err Shape
 
--- the prefix of a text: its numbers end at the first three dots (46) and at the first slash (47) after them, and the rest is its length
+-- the prefix of a text: its numbers end at the first three dots (46) and at the first slash (47)
+-- after them, and the rest is its length
 abbrev pub prefix_of : List ℕ → Result Prefix PrefixFault
 prefix_of text =
     let second = after 46 text in

@@ -1,4 +1,5 @@
--- The TCP header (RFC 9293 section 3.1), read from the octets of a segment, the payload of an IPv4 packet.
+-- The TCP header (RFC 9293 section 3.1), read from the octets of a segment, the payload of an IPv4
+-- packet.
 use Rattle.std.specs.Prelude.{ℕ, ◌*◌, ◌/◌, ◌%◌, ◌==◌, ◌&&◌, ◌||◌, nat_lt, not, Bool, true, false, List, length, take, drop, slice_index}
 use Rattle.wire_base.specs.Numbers.{u16_at, u32_at}
 use Rattle.wire_base.specs.Sums.{sum_is_right}
@@ -62,7 +63,8 @@ has_syn flags = has_flag 2 flags
 abbrev pub has_fin : ℕ → Bool
 has_fin flags = has_flag 1 flags
 
--- the flags set of SYN, FIN, RST and ACK are SYN; SYN ACK; ACK; FIN ACK; RST; or RST ACK (this project's profile)
+-- the flags set of SYN, FIN, RST and ACK are SYN; SYN ACK; ACK; FIN ACK; RST; or RST ACK (this
+-- project's profile)
 abbrev pub go_together : (syn fin rst ack : Bool) → Bool
 go_together true fin rst ack = not fin && not rst
 go_together false fin true ack = not fin
@@ -79,7 +81,8 @@ is_short m = nat_lt (length m) 20
 abbrev pub has_bad_header_length : List ℕ → Bool
 has_bad_header_length m = nat_lt (header_length m) 20 || nat_lt (length m) (header_length m)
 
--- the sum over the pseudo-header and the segment is wrong; `pseudo` is the sum of the pseudo-header
+-- the checksum over the pseudo-header and the segment is wrong; `pseudo` is the sum of the
+-- pseudo-header
 abbrev pub has_wrong_sum : (pseudo : ℕ) → List ℕ → Bool
 has_wrong_sum pseudo m = not (sum_is_right m pseudo)
 
@@ -87,6 +90,7 @@ has_wrong_sum pseudo m = not (sum_is_right m pseudo)
 abbrev pub has_illegal_flags : List ℕ → Bool
 has_illegal_flags m = not (are_legal (flags m))
 
--- before the end option or the end of the area an option has no length octet, a length below 2, or reaches past the area
+-- before the end option or the end of the area an option has no length octet, a length below 2, or
+-- reaches past the area
 abbrev pub has_bad_options : List ℕ → Bool
 has_bad_options m = not (are_well_formed (options m))

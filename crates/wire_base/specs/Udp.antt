@@ -25,6 +25,6 @@ is_short m = nat_lt (length m) 8
 abbrev pub has_other_length : List ℕ → Bool
 has_other_length m = not (length_field m == length m)
 
--- the sender made a checksum, and the sum is wrong; `pseudo` is the sum of the pseudo-header
+-- the sender made a checksum, and it is wrong; `pseudo` is the sum of the pseudo-header
 abbrev pub has_wrong_sum : (pseudo : ℕ) → List ℕ → Bool
 has_wrong_sum pseudo m = not (checksum m == 0) && not (sum_is_right m pseudo)

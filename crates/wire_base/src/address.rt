@@ -5,7 +5,7 @@
 pub struct Addr(pub u32);
 
 /// The kind of frames in a capture: an Ethernet II header of 14 octets before the packet, or the
-/// IPv4 packet alone.
+/// IPv4 packet alone. Network 1 and 101 of a capture file.
 #[derive(Clone, Copy, Debug, PartialEq, Eq)]
 pub enum Link {
     Ethernet,

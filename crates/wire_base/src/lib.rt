@@ -3,7 +3,7 @@
 //!
 //! Proved: numbers are read and written at their offsets, highest octet first (`u16_at` ..
 //! `put_u32`). `sum_right` is true exactly if the 16-bit words, of any number, sum to a positive
-//! multiple of 65,535; `sum_for` is the checksum for it, and `pseudo_sum` the sum of the
+//! multiple of 65,535. `sum_for` is the checksum for it, and `pseudo_sum` the sum of the
 //! pseudo-header. Sequence numbers are counted modulo 2^32 (`sequence_plus`, `sequence_before`,
 //! `sequence_distance`). `frame_kind` returns what a frame carries. A prefix holds an address
 //! exactly by its first bits. `read_prefix` returns the prefix that a text is, or its first fault,

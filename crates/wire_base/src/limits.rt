@@ -10,7 +10,7 @@ pub const MAX_PACKET: usize = 65_535;
 /// Most octets of a frame that is written: a link header and a packet.
 pub const MAX_FRAME: usize = 65_549;
 
-/// Most octets behind an IPv4 header without options, which has 20 (RFC 791 section 3.1).
+/// Most octets after an IPv4 header without options, which has 20 (RFC 791 section 3.1).
 pub const MAX_PAYLOAD: usize = 65_515;
 
 /// Most octets of a record that is read from a capture file (this project's profile).

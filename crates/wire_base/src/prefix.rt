@@ -12,7 +12,8 @@ pub struct Prefix {
     pub len: u8,
 }
 
-/// Reasons why a text is not a prefix, in the order of the tests.
+/// Reasons why a text is not a prefix, in the order of the tests. `Shape`: the text has another
+/// form. `Part`: one of the four numbers is above 255. `Length`: the length is above 32.
 #[derive(Clone, Copy, Debug, PartialEq, Eq, Error)]
 pub enum PrefixFault {
     #[error("not four numbers with dots, a slash and a length")]

@@ -16,7 +16,7 @@ pub fn pseudo_sum(src: Addr, dst: Addr, protocol: u8, len: u16) -> u32
 }
 
 /// Returns whether the sum of `extra` and the words of the octets, the checksum among them, is
-/// right: a positive multiple of 65,535.
+/// right: a positive multiple of 65,535. An odd last octet is the high octet of its word.
 pub fn sum_right(bytes: &[u8], extra: u32) -> bool
     ensures { result ≡ sums.sum_is_right bytes.now extra }
 {

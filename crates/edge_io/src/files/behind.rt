@@ -127,8 +127,8 @@ impl<W: Write> WriteBehind<W> {
     }
 }
 
-// Writes all the octets, or keeps the error. `write_all` repeats an interrupted write, and fails if a
-// write takes no octet.
+// Writes all the octets, or keeps the error. `write_all` repeats an interrupted write, and fails if
+// a write takes no octet.
 fn write_whole<W: Write>(
     writer: &mut W,
     piece: &[u8],

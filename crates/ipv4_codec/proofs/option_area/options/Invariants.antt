@@ -3,7 +3,8 @@ use Rattle.wire_base.specs.Options.{are_well_formed, has_route, is_route}
 use Rattle.wire_base.proofs.OptionWalk.{formed_from, has_from}
 use Rattle.ipv4_codec.proofs.option_area.options.Given as goal
 
--- the area is well formed exactly if the octets not yet read are, and it has a route exactly if one was read or these octets have one
+-- the area is well formed exactly if the octets not yet read are, and it has a route exactly if one
+-- was read or these octets have one
 abbrev pub invariant-loop-at : goal.invariant-loop-at
 invariant-loop-at l = record {
   inside : l.at ≤ length l.bytes;

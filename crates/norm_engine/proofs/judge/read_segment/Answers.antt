@@ -1,4 +1,5 @@
--- The rules on the header of a segment are those of its faults, in the order in which these are tested.
+-- The rules on the header of a segment are those of its faults, in the order in which these are
+-- tested.
 use Rattle.std.proofs.Common.{◌≡◌, ℕ, ◌≤◌, Bool, true, false, ◌&&◌, not, cond, length, Option, Some, None, Ok, Err, refl, sym, ap, ap₂, ◌∙◌, option_map, slice_range}
 use Rattle.std.proofs.Math.Bool.{and_comm}
 use Rattle.wire_base.specs.Reading.{value_or_fault}

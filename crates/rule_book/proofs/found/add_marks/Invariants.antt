@@ -4,7 +4,8 @@ use Rattle.rule_book.specs.Reports.{EntryFits}
 use Rattle.rule_book.specs.Words.{Awaits}
 use Rattle.rule_book.proofs.found.add_marks.Given as goal
 
--- if the words are the missing marks of a whole entry, the rest of them are the missing marks of it beside the entry so far
+-- if the words are the missing marks of a whole entry, the rest of them are those that it misses
+-- besides the entry so far
 abbrev pub invariant-loop-rest : goal.invariant-loop-rest
 invariant-loop-rest l = record {
   awaits : (whole : PlainEntry) → EntryFits whole → Awaits (plain l.fn.entry) l.words whole → Awaits (plain l.entry) l.rest whole;
