@@ -1,4 +1,4 @@
-/* The way of a frame: from a ring into a pipe to norm, and from another pipe to an interface. */
+/* The path of a frame: from a ring into a pipe to norm, and from another pipe to an interface. */
 #include "norm-bridge.h"
 #include <errno.h>
 #include <poll.h>
@@ -50,7 +50,7 @@ static bool write_all(int out, const unsigned char *octets, size_t length) {
     return true;
 }
 
-/* Counts the microseconds since the frame was read: from 16 on, 16 buckets a power of two. */
+/* Counts the microseconds since the frame was read: from 16 on, 16 buckets per power of two. */
 static void count_wait(struct norm *norm, uint64_t since, uint64_t now) {
     uint64_t wait = now > since ? (now - since) / 1000 : 0;
     unsigned power = 0;

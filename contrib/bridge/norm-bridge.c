@@ -116,7 +116,7 @@ static void take_signals(struct course *course) {
     }
 }
 
-/* Once a second: are both links there, and is a line of counts due? */
+/* Once a second: do both links exist, and is a line of counts due? */
 static void tick(struct course *course) {
     for (int k = 0; k < SIDES; k++) {
         if (course->vanished || link_exists(&sides[k])) continue;

@@ -63,7 +63,7 @@ struct norm {
     pthread_t sender, reader;
     /* How long the report's reader may nap: the pipe holds what norm writes meanwhile. */
     int nap;
-    /* OUT has ended; its head was read; the bridge killed norm, or did so since another run ended. */
+    /* OUT has ended; its head was read; the bridge killed norm, maybe since another run ended. */
     atomic_bool ended;
     bool answered, killed, aside;
     unsigned char *batch, *frames;

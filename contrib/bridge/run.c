@@ -136,7 +136,7 @@ static void make_words(void) {
     words[n] = NULL;
 }
 
-/* Becomes norm, in a process group of its own, with four descriptors and no blocked signal. */
+/* Becomes norm, in its own process group, with four descriptors and no blocked signal. */
 static void become(int in, int report, int errors, int out) {
     sigset_t none;
     sigemptyset(&none);

@@ -1,4 +1,5 @@
-# An object for each host that sent records, the host with most records first; with both sides protected, by the lines of the first engine:
+# An object for each host that sent records, the host with most records first; with both sides
+# protected, by the lines of the first engine:
 #   normview --json IN OUT REPORT | jq -cn -f talkers.jq
 
 # The names in the output of normview; where it stopped, so does this filter.

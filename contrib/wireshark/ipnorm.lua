@@ -1,14 +1,17 @@
--- What norm did with each frame of a capture: reads the report of the run and adds the fields ipnorm.* to the frames in Wireshark and tshark.
--- docs/TOOLS.md says how to install it and lists the fields. (The protocol `norm` of Wireshark is another one.)
+-- Adds what norm did with each frame of a capture, from the report of the run: the fields ipnorm.*
+-- in Wireshark and tshark. docs/TOOLS.md says how to install it and lists the fields. (The protocol
+-- `norm` of Wireshark is another one.)
 --
--- REPORT is the preference ipnorm.report; if it is empty, the file beside the capture with its name and `.norm`, on Linux. The preference ipnorm.capture says
--- whether the capture is IN, which norm read, or OUT, which it wrote. A report of another run is named in the tree, and then no other field is added: a
--- report whose numbers of records or frames are not those of the capture, or whose lines do not fit the protocols or connections of the frames. That is known
--- once every frame was read: at the first display in Wireshark, and with the option -2 in tshark.
+-- REPORT is the preference ipnorm.report; if it is empty, the file beside the capture with its name
+-- and `.norm`, on Linux. The preference ipnorm.capture says whether the capture is IN, which norm
+-- read, or OUT, which it wrote. REPORT is read in parallel with the frames, in one pass; a frame
+-- that is shown again is found from a mark. A report of another run adds an error and no other
+-- field, from the first frame that it cannot be of. A capture with fewer frames is noticed at its
+-- end: Wireshark and `tshark -2` have the error on each frame, and tshark ends with 2.
 
 local ipnorm = Proto("ipnorm", "IPv4 normalizer norm")
 
--- What each rule says; check/tools compares it with the table of the programs, and `check/tools --write` writes it from there.
+-- What each rule says; `check/tools/adapters --write` writes it from the table of the programs.
 local SENTENCES = {
     -- rules
     L_SNAP = "fewer octets were captured than the packet had",
@@ -75,11 +78,17 @@ local SENTENCES = {
     -- end of rules
 }
 
-local SIDES = { ["in"] = true, ["out"] = true, ["-"] = true }
-local VERDICTS = { pass = true, fix = true, hold = true, drop = true }
+local SIDES, VERDICTS = { ["in"] = true, ["out"] = true, ["-"] = true }, { pass = true, fix = true, hold = true, drop = true }
 
--- IP protocols of the rules whose name begins so.
+-- IP protocols of the rules by the first letter of their name.
 local PROTOCOLS = { T = 6, C = 6, U = 17, M = 1 }
+
+-- Rules under which two octets were sent for one offset.
+local CLASHES = { T_CLASH = true, F_CLASH = true }
+
+-- Records between two marks, different lines that are kept, octets up to the ports of a frame,
+-- octets and lines of the report that are read ahead.
+local MARKED, MOST_LINES, OCTETS, BLOCK, AHEAD, NONE = 512, 20000, 78, 65536, 256, {}
 
 ipnorm.prefs.report = Pref.string("Report", "", "The report of the run; if empty, the file beside the capture with its name and .norm (Linux)")
 ipnorm.prefs.capture = Pref.enum("The capture is", 0, "IN: what norm read; OUT: what it wrote", { { 1, "IN", 0 }, { 2, "OUT", 1 } }, true)
@@ -104,246 +113,468 @@ local first, second = line_fields("ipnorm", ""), line_fields("ipnorm.second", " 
 local record_field = ProtoField.uint32("ipnorm.record", "Record of IN")
 local out_field = ProtoField.uint32("ipnorm.out", "First frame in OUT")
 local error_field = ProtoField.string("ipnorm.error", "Error")
+local all = { record_field, out_field, error_field }
+for name, field in pairs(first) do
+    table.insert(all, field)
+    table.insert(all, second[name])
+end
+ipnorm.fields = all
 
-ipnorm.fields = { record_field, out_field, error_field }
-for _, fields in ipairs({ first, second }) do
-    for _, field in pairs(fields) do
-        table.insert(ipnorm.fields, field)
+-- Expert information: for each rule by the verdict, for a clash, and for a report of another run.
+local experts = {
+    drop = ProtoExpert.new("ipnorm.dropped", "not written", expert.group.PROTOCOL, expert.severity.WARN),
+    fix = ProtoExpert.new("ipnorm.rewritten", "rewritten", expert.group.PROTOCOL, expert.severity.NOTE),
+    clash = ProtoExpert.new("ipnorm.clash", "octets that differ from those first sent", expert.group.SECURITY, expert.severity.ERROR),
+    mismatch = ProtoExpert.new("ipnorm.mismatch", "report of another run", expert.group.PROTOCOL, expert.severity.ERROR),
+}
+ipnorm.experts = { experts.drop, experts.fix, experts.clash, experts.mismatch }
+-- Methods by their own names: a look-up through the object costs as much as the call.
+local add, generated, info, referenced = TreeItem.add, TreeItem.set_generated, TreeItem.add_proto_expert_info, TreeItem.referenced
+local raw, length = Tvb.raw, Tvb.len
+local byte, sub, find = string.byte, string.sub, string.find
+
+local function add_protocol(parts, protocol)
+    if protocol then
+        parts.protocol = (parts.protocol or protocol) == protocol and protocol or -1
     end
 end
 
--- Returns the parts of the line of a record or of the second engine, or nil where it is none.
-local function parts_of(line)
-    local number, side, verdict, frames, rest = line:match("^/?(%d+) (%S+) (%a+) (%d+)(.*)$")
-    if not (number and SIDES[side] and VERDICTS[verdict]) then
-        return nil
+-- Adds what a word of the line means to its parts, and returns whether it is a word of a report.
+local function add_word(parts, word)
+    local mark, era, reason, octets = word:match("^([@+-])(%d+):?(%a*):?(%d*)$")
+    if word:match("^[A-Z]_[A-Z_]+$") then
+        table.insert(parts.rules, word)
+        add_protocol(parts, PROTOCOLS[word:sub(1, 1)])
+    elseif mark == "@" then
+        parts.era = tonumber(era)
+        table.insert(parts.eras, "era")
+        add_protocol(parts, PROTOCOLS.T)
+    elseif mark == "+" then
+        parts.begun = tonumber(era)
+        table.insert(parts.eras, "begun")
+    elseif mark == "-" then
+        table.insert(parts.ended, { era = tonumber(era), reason = reason, octets = tonumber(octets) })
+    else
+        return false
     end
-    local parts = { number = tonumber(number), side = side, verdict = verdict, frames = tonumber(frames), rules = {}, ended = {} }
+    return true
+end
+
+-- Returns the parts of a line without its number, or false if it is not one. `protocol` is the one
+-- that its packet has, if a rule or an era is on it; -1 if there are two of them.
+local function parts_of(line)
+    local side, verdict, frames, rest = line:match("^ (%S+) (%a+) (%d+)(.*)$")
+    if not (SIDES[side] and VERDICTS[verdict]) then
+        return false
+    end
+    local parts = { side = side, verdict = verdict, frames = tonumber(frames), rules = {}, ended = {}, eras = {} }
     for word in rest:gmatch("%S+") do
-        local mark, era, reason, octets = word:match("^([@+-])(%d+):?(%a*):?(%d*)$")
-        if word:match("^[A-Z]_[A-Z_]+$") then
-            table.insert(parts.rules, word)
-        elseif mark == "@" then
-            parts.era = tonumber(era)
-        elseif mark == "+" then
-            parts.begun = tonumber(era)
-        elseif mark == "-" then
-            table.insert(parts.ended, { era = tonumber(era), reason = reason, octets = tonumber(octets) })
-        else
-            return nil
+        if not add_word(parts, word) then
+            return false
         end
+    end
+    parts.summary = table.concat({ side, verdict, table.unpack(parts.rules) }, " ")
+    parts.plain = verdict == "pass" and #parts.rules == 0 and #parts.ended == 0
+    parts.title = ipnorm.description .. ": " .. parts.summary
+    return parts
+end
+
+local function malformed(run)
+    run.fault = ("%s is malformed at line %d"):format(run.path, run.line)
+end
+
+-- Goes to an octet of the report, at which a line begins.
+local function seek(run, offset)
+    run.block, run.start, run.next, run.ahead, run.offsets[1] = "", offset, 1, 0, offset
+end
+
+-- Returns the offset of the next line.
+local function offset_of(run)
+    return run.offsets[run.next]
+end
+
+-- Returns the parts of a line from those that are kept, or keeps them.
+local function known_parts(run, rest)
+    local parts = run.parts_of[rest]
+    if parts == nil then
+        parts = parts_of(rest)
+        if run.kept == MOST_LINES then
+            run.parts_of, run.kept = {}, 0
+        end
+        run.parts_of[rest], run.kept = parts, run.kept + 1
     end
     return parts
 end
 
--- A run: `lines` of its report; `first`: the index of each record's line; `frame`: the index of the line for which each frame of OUT was written; `out`: how
--- many frames were written before each record; `stopped`: whether it stopped before the end of IN. Returns what is wrong with the report, or nil.
-local function read_lines(file, run)
-    local left = 0
-    for line in file:lines("*L") do
-        local parts = parts_of(line)
-        local second_line = line:sub(1, 1) == "/"
-        if run.last then
-            return "has lines behind its last one"
-        elseif not parts then
-            run.last = line
-        elseif second_line ~= (left > 0) or (not second_line and parts.number ~= #run.first + 1) then
-            return "is malformed at line " .. #run.lines + 2
-        else
-            table.insert(run.lines, line)
-            if second_line then
-                left = left - 1
-            else
-                table.insert(run.first, #run.lines)
-                table.insert(run.out, #run.frame)
-                left = run.both and parts.frames or 0
-            end
-            for _ = 1, (second_line or not run.both) and parts.frames or 0 do
-                table.insert(run.frame, #run.lines)
-            end
-        end
-    end
-    local records, frames = (run.last or ""):match("^end (%d+) (%d+)\n$")
-    run.stopped = (run.last or ""):match("^stop %a+ %d+\n$") ~= nil
-    if left > 0 or not (run.stopped or (tonumber(records) == #run.first and tonumber(frames) == #run.frame)) then
-        return "is of a run that was killed, or malformed at its last line"
-    end
-    return nil
+-- Reads more octets after those of the block from `at` on, at least as many as these are. Returns
+-- whether there were some.
+local function read_more(run, at)
+    local rest = sub(run.block, at)
+    run.file:seek("set", run.start + #run.block)
+    local more = run.file:read(#rest > BLOCK and #rest or BLOCK)
+    run.block, run.start = rest .. (more or ""), run.start + at - 1
+    return more ~= nil
 end
 
-local function read_report(path)
-    local run = { lines = {}, first = {}, frame = {}, out = {}, eras = {}, seen = 0 }
+-- Reads lines ahead, none if the next one is malformed: their numbers, those of the second engine
+-- as they are written, their parts and their offsets.
+local function read_ahead(run)
+    local numbers, lines, offsets, at, count = run.numbers, run.lines, run.offsets, offset_of(run) - run.start + 1, 0
+    offsets[1] = offset_of(run)
+    while count < AHEAD do
+        local _, last, number, rest = find(run.block, "^(/?%d+)( [^\n]*)\n", at)
+        if last then
+            count, at = count + 1, last + 1
+            numbers[count], lines[count], offsets[count + 1] = tonumber(number) or number, known_parts(run, rest), run.start + last
+        elseif count > 0 or find(run.block, "\n", at, true) or not read_more(run, at) then
+            break
+        else
+            at = 1
+        end
+    end
+    run.next, run.ahead = 1, count
+end
+
+-- Takes the next line of the report. Returns its number, a text with a slash in a line of the
+-- second engine, and its parts; or nil, and the report has a fault.
+local function next_line(run)
+    if run.next > run.ahead then
+        read_ahead(run)
+    end
+    local at = run.next
+    local parts = at <= run.ahead and run.lines[at]
+    run.next, run.line = at + 1, run.line + 1
+    if not parts then
+        return malformed(run)
+    end
+    return run.numbers[at], parts
+end
+
+-- Tests what follows the last record, which was just read.
+local function test_end(run)
+    run.file:seek("set", offset_of(run))
+    local last, more = run.file:read("*L", "*L")
+    if more then
+        run.fault = run.path .. " has lines behind its last one"
+    elseif last ~= run.last or run.before + run.written ~= run.frames then
+        run.fault = run.path .. " is malformed at its last line"
+    end
+end
+
+-- Reads the lines of the next record: `parts` from its own line, `behind` from those of the second
+-- engine. It has `written` frames of OUT after `before` others, and of the capture those up to
+-- `high`.
+local function next_record(run)
+    local count = run.number
+    if count == #run.marks * MARKED then
+        table.insert(run.marks, { number = count, before = run.before + run.written, high = run.high, offset = offset_of(run), line = run.line })
+    end
+    local number, parts = next_line(run)
+    run.number, run.before = count + 1, run.before + run.written
+    run.parts, run.behind, run.written = parts, run.both and {} or NONE, parts and parts.frames or 0
+    if parts and number ~= count + 1 then
+        malformed(run)
+    elseif parts and run.both then
+        run.written = 0
+        for _ = 1, parts.frames do
+            local other, its = next_line(run)
+            if not its or type(other) == "number" then
+                return malformed(run)
+            end
+            table.insert(run.behind, { number = tonumber(sub(other, 2)), parts = its })
+            run.written = run.written + its.frames
+        end
+    end
+    run.high = run.out and run.before + run.written or run.number
+    if run.number == run.records and not run.fault then
+        test_end(run)
+    end
+end
+
+-- Goes to a mark, from which the records are read again.
+local function go_back(run, mark)
+    seek(run, mark.offset)
+    run.number, run.before, run.written, run.high, run.line = mark.number, mark.before, 0, mark.high, mark.line
+end
+
+-- Returns the last mark before frame `number` of the capture.
+local function mark_of(run, number)
+    local at = #run.marks
+    while run.marks[at].high >= number do
+        at = at - 1
+    end
+    return run.marks[at]
+end
+
+-- Reads the record of frame `number` of the capture; with the last frame of OUT all records, once.
+local function go_to(run, number)
+    if run.marks[1] and (number <= run.high - (run.out and run.written or 1) or number > run.high + MARKED) then
+        go_back(run, mark_of(run, number))
+    end
+    while not run.fault and number > run.high do
+        next_record(run)
+    end
+    if run.out and number == run.frames and not run.whole then
+        run.whole = true
+        while not run.fault and run.number < run.records do
+            next_record(run)
+        end
+        go_to(run, number)
+    end
+end
+
+-- Counts the records and frames of a run that stopped, since its last line does not have them.
+local function count_records(run)
+    run.records, run.frames = math.huge, math.huge
+    local offset
+    repeat
+        offset = offset_of(run)
+        next_record(run)
+    until run.fault
+    run.records, run.frames, run.fault = run.number - 1, run.before, nil
+    seek(run, offset)
+    test_end(run)
+    go_back(run, run.marks[1])
+end
+
+-- Opens the report. One that cannot be read twice, as a pipe, is copied into a file without a name.
+local function open_report(path)
     local file = io.open(path, "rb")
-    local head = file and file:read("*L")
-    if head == "norm 1\n" or head == "norm 2\n" or head == "norm 2 both\n" then
-        run.both = head == "norm 2 both\n"
-        run.fault = read_lines(file, run)
-    else
-        run.fault = file and "is no report" or "cannot be read"
+    if file and not file:seek("end") then
+        local copy = io.tmpfile()
+        copy:write(file:read("*a"))
+        return copy
     end
-    if file then
-        file:close()
+    return file
+end
+
+-- Reads the head and the last line of the report.
+local function read_report(path, out)
+    local run = { path = path, out = out, number = 0, before = 0, written = 0, high = 0, line = 1, seen = 0 }
+    run.marks, run.parts_of, run.kept, run.ends = {}, {}, 0, {}
+    run.numbers, run.lines, run.offsets = {}, {}, {}
+    run.file = open_report(path)
+    if not run.file then
+        run.fault = path .. " cannot be read"
+        return run
     end
-    run.fault = run.fault and path .. " " .. run.fault
+    run.file:seek("set", math.max(0, run.file:seek("end") - 100))
+    run.last = (run.file:read("*a") or ""):match("\n([^\n]*\n)$") or ""
+    run.file:seek("set", 0)
+    local head = run.file:read("*L")
+    local records, frames = run.last:match("^end (%d+) (%d+)\n$")
+    run.both, run.records, run.frames = head == "norm 2 both\n", tonumber(records), tonumber(frames)
+    seek(run, #(head or ""))
+    run.stopped = run.last:match("^stop %a+ %d+\n$") ~= nil
+    if not (run.both or head == "norm 2\n" or head == "norm 1\n") then
+        run.fault = path .. " is no report"
+    elseif run.stopped then
+        count_records(run)
+    elseif not records then
+        run.fault = path .. " is of a run that was killed, or malformed at its last line"
+    end
     return run
 end
 
--- Returns the report beside a file that this process has open, or nil. Wireshark tells a script no name of the capture, so this reads the names from /proc.
+-- Returns the report beside a file that this process has open, or nil. Wireshark gives a script no
+-- name of the capture, so this reads the names from /proc.
 local function report_beside()
-    local stat = io.open("/proc/self/stat")
-    if not stat then
-        return nil
-    end
-    local names = io.popen(("readlink /proc/%d/fd/*"):format(stat:read("*n")))
-    stat:close()
-    local found
-    for name in names:lines() do
+    local stat, found = io.open("/proc/self/stat"), nil
+    local names = stat and io.popen(("readlink /proc/%d/fd/*"):format(stat:read("*n")))
+    for name in names and names:lines() or pairs({}) do
         local file = io.open(name .. ".norm")
-        if file then
-            found = name .. ".norm"
-            file:close()
-        end
+        found = file and file:close() and name .. ".norm" or found
     end
-    names:close()
     return found
 end
 
-local run, path
+-- Returns that the report's number of records or frames differs from the capture's.
+local function of_another(run)
+    return ("%s is of another run: it has %d %s"):format(run.path, run.out and run.frames or run.records, run.out and "frames of OUT" or "records")
+end
+
+-- Returns what is wrong with the report after the capture was read, or nil.
+local function fault_at_end(run)
+    local count = run.out and run.frames or run.records or 0
+    local short = run.seen < count and ("%s, and %d frames were read"):format(of_another(run), run.seen)
+    return run.seen > 0 and (run.fault or short) or nil
+end
+
+-- The run of the capture that is open, and the fault of the one before it: tshark begins another
+-- one at its end. It then prints the fault on standard error, and ends with 2.
+local now = setmetatable({}, {
+    __gc = function(self)
+        local fault = self.fault or self.run and fault_at_end(self.run)
+        if fault and not gui_enabled() then
+            io.stderr:write("ipnorm: ", fault, "\n")
+            os.exit(2)
+        end
+    end,
+})
 
 function ipnorm.init()
-    path = ipnorm.prefs.report ~= "" and ipnorm.prefs.report or report_beside()
-    run = path and read_report(path)
+    local path = ipnorm.prefs.report ~= "" and ipnorm.prefs.report or report_beside()
+    now.fault = now.run and fault_at_end(now.run)
+    now.run = path and read_report(path, ipnorm.prefs.capture == 1)
 end
 
--- Returns the protocol of the frame's IPv4 packet, its addresses and, of a first fragment or a whole packet, its ports; outside before inside. It reads the
--- octets, since fields are not there when Wireshark or tshark read the capture for the first time. Returns nothing where there is no IPv4 header.
-local function packet_of(tvb, pinfo, side)
-    local ethernet = tostring(pinfo.dl_src) ~= "NONE" and tvb:len() >= 14 and tvb(12, 2):uint() == 0x0800
-    local at = ethernet and 14 or 0
-    if tvb:len() < at + 20 or tvb(at, 1):bitfield(0, 4) ~= 4 then
+-- Returns the protocol of the IPv4 packet; its addresses and, unless it is a later fragment,
+-- its ports, those outside first; without options, the same octets in their order, too. It reads
+-- octets, since a capture that is read for the first time has no fields. Returns nil without IPv4.
+local function packet_of(run, tvb, pinfo, side)
+    local size = length(tvb)
+    if run.ethernet == nil and size >= 14 then
+        run.ethernet = tostring(pinfo.dl_src) ~= "NONE"
+    end
+    local at = run.ethernet and 14 or 0
+    local octets = raw(tvb, 0, size < OCTETS and size or OCTETS)
+    local words = (octets:byte(at + 1) or 0) - 0x40
+    if size < at + 20 or words < 0 or words > 15 or (run.ethernet and octets:sub(13, 14) ~= "\8\0") then
         return nil
     end
-    local outer, inner = 0, 1
+    local high, low, _, kind = octets:byte(at + 7, at + 10)
+    local behind = at + words * 4
+    local whole = high % 32 == 0 and low == 0 and size >= behind + 4
+    local ports = whole and octets:sub(behind + 1, behind + 4) or ""
+    local wire = whole and words == 5 and octets:sub(at + 13, at + 24)
     if side == "out" then
-        outer, inner = 1, 0
+        return kind, octets:sub(at + 17, at + 20) .. octets:sub(at + 13, at + 16) .. ports:sub(3, 4) .. ports:sub(1, 2), wire
     end
-    local ends = tvb:raw(at + 12 + 4 * outer, 4) .. tvb:raw(at + 12 + 4 * inner, 4)
-    local behind = at + tvb(at, 1):bitfield(4, 4) * 4
-    local ports
-    if tvb(at + 6, 2):bitfield(3, 13) == 0 and tvb:len() >= behind + 4 then
-        ports = tvb:raw(behind + 2 * outer, 2) .. tvb:raw(behind + 2 * inner, 2)
-    end
-    return tvb(at + 9, 1):uint(), ends, ports
+    return kind, octets:sub(at + 13, at + 20) .. ports, wire
 end
 
--- Returns whether the frame cannot be the one of the line: another protocol than that of a rule or of an era, or another connection than the era's.
-local function contradicts(tvb, pinfo, parts)
-    local kind, ends, ports = packet_of(tvb, pinfo, parts.side)
-    for _, rule in ipairs(parts.rules) do
-        local wanted = PROTOCOLS[rule:sub(1, 1)]
-        if wanted and wanted ~= kind then
-            return true
-        end
-    end
-    if not parts.era then
+-- Returns whether the frame cannot be the one of the line: its protocol is not that of a rule or of
+-- an era, or its connection is not the era's.
+local function contradicts(run, tvb, pinfo)
+    local parts, at = run.parts, run.ethernet and 14 or 0
+    local octets = parts.wire and length(tvb) >= at + 24 and raw(tvb, at, 24)
+    if not parts.protocol or (octets and sub(octets, 13) == parts.wire and byte(octets, 10) == 6 and byte(octets) == 0x45) then
         return false
     end
-    local era = run.eras[parts.era] or { ends = ends }
-    run.eras[parts.era] = era
-    era.ports = era.ports or ports
-    return kind ~= 6 or era.ends ~= ends or (ports ~= nil and era.ports ~= ports)
+    local kind, ends, wire = packet_of(run, tvb, pinfo, parts.side)
+    if kind ~= parts.protocol or not parts.era then
+        return kind ~= parts.protocol
+    end
+    local known = run.ends[parts.era] or ends
+    if #ends >= #known then
+        run.ends[parts.era] = ends
+    end
+    local common = math.min(#ends, #known)
+    parts.wire = known == ends and wire
+    return known ~= ends and known:sub(1, common) ~= ends:sub(1, common)
 end
 
--- Returns why the fields of the line cannot be shown, or nil; `parts` is the line of the record.
-local function fault_of(tvb, pinfo, parts)
-    local out = ipnorm.prefs.capture == 1
-    local count = out and #run.frame or #run.first
-    run.seen = math.max(run.seen, pinfo.number)
-    if not run.fault then
-        if (run.seen > count and (out or not run.stopped)) or (pinfo.visited and run.seen < count) then
-            run.fault = ("%s is of another run: it has %d %s"):format(path, count, out and "frames of OUT" or "records")
-        elseif parts and not pinfo.visited and contradicts(tvb, pinfo, parts) then
-            run.fault = ("%s is of another run: record %d is another one"):format(path, parts.number)
+-- Goes to the record of the frame. Returns why its fields cannot be shown, or nil, and whether the
+-- report is that of another run.
+local function fault_of(run, tvb, pinfo)
+    local number, seen = pinfo.number, run.seen
+    local count, again = run.out and run.frames or run.records, number <= seen
+    run.seen = again and seen or number
+    if not run.fault and number > count and run.stopped and not run.out then
+        return "the run stopped before this record", false
+    elseif not run.fault and (number > count or (again and seen < count)) then
+        run.fault = of_another(run)
+    elseif not run.fault then
+        go_to(run, number)
+        if not (run.fault or again) and contradicts(run, tvb, pinfo) then
+            run.fault = ("%s is of another run: record %d is another one"):format(run.path, run.number)
         end
     end
-    if not run.fault and not parts then
-        return "the run stopped before this record"
-    elseif not run.fault and not pinfo.visited and not gui_enabled() then
-        return "tshark compares the report with the whole capture under the option -2 alone"
-    end
-    return run.fault
+    return run.fault, run.fault ~= nil
 end
 
-local function summary_of(parts)
-    return table.concat({ parts.side, parts.verdict, table.unpack(parts.rules) }, " ")
-end
-
-local function add_line(tree, fields, parts)
-    tree:add(fields.side, parts.side):set_generated()
-    tree:add(fields.verdict, parts.verdict):set_generated()
-    tree:add(fields.frames, parts.frames):set_generated()
+-- Adds the rules of a line, each with its sentence, and its expert information.
+local function add_rules(item, fields, parts)
     for _, rule in ipairs(parts.rules) do
-        local item = tree:add(fields.rule, rule):set_generated()
-        if SENTENCES[rule] then
-            item:add(fields.sentence, SENTENCES[rule]):set_generated()
+        local below = generated(add(item, fields.rule, rule))
+        local sentence = SENTENCES[rule]
+        if sentence then
+            generated(add(below, fields.sentence, sentence))
         end
-    end
-    if parts.era then
-        tree:add(fields.era, parts.era):set_generated()
-    end
-    if parts.begun then
-        tree:add(fields.begun, parts.begun):set_generated()
-    end
-    for _, ended in ipairs(parts.ended) do
-        local item = tree:add(fields.ended, ended.era):set_generated()
-        item:add(fields.reason, ended.reason):set_generated()
-        if ended.octets then
-            item:add(fields.octets, UInt64(ended.octets)):set_generated()
+        local kind = CLASHES[rule] and experts.clash or experts[parts.verdict]
+        if kind then
+            info(below, kind, sentence and rule .. ": " .. sentence or rule)
         end
     end
 end
 
--- Returns the record's line and the lines of the second engine that belong to this frame: of IN all of the record, of OUT the one for which it was written.
-local function lines_of(number)
-    if ipnorm.prefs.capture == 0 then
-        local at, behind = run.first[number], {}
-        for index = at and at + 1 or 1, at and (run.first[number + 1] or #run.lines + 1) - 1 or 0 do
-            table.insert(behind, parts_of(run.lines[index]))
+-- Adds what a line says: side and frames where the record does not simply pass.
+local function add_line(item, fields, parts)
+    generated(add(item, fields.verdict, parts.verdict))
+    if parts.verdict ~= "pass" then
+        generated(add(item, fields.side, parts.side))
+        generated(add(item, fields.frames, parts.frames))
+    end
+    if #parts.rules > 0 then
+        add_rules(item, fields, parts)
+    end
+    for i = 1, #parts.eras do
+        local name = parts.eras[i]
+        generated(add(item, fields[name], parts[name]))
+    end
+    for i = 1, #parts.ended do
+        local ended = parts.ended[i]
+        local below = generated(add(item, fields.ended, ended.era))
+        generated(add(below, fields.reason, ended.reason))
+        if ended.octets then
+            generated(add(below, fields.octets, UInt64(ended.octets)))
         end
-        return at and parts_of(run.lines[at]), behind
     end
-    local at = run.frame[number]
-    local behind = at and run.both and { parts_of(run.lines[at]) } or {}
-    while at and run.lines[at]:sub(1, 1) == "/" do
-        at = at - 1
+end
+
+-- Adds the lines of the second engine: of IN all of the record's, of OUT that of the frame.
+local function add_second(item, run, pinfo)
+    local last = run.before
+    for _, other in ipairs(run.behind) do
+        local parts, number = other.parts, pinfo.number
+        last = last + parts.frames
+        if not run.out or (last >= number and last - parts.frames < number) then
+            local below = add(item, ipnorm, ("Second engine, frame %d: %s"):format(other.number, parts.summary))
+            add_line(generated(below), second, parts)
+        end
     end
-    return at and parts_of(run.lines[at]), behind
+end
+
+-- Returns whether nobody asks for the fields of a record that passed: the tree is not shown, and
+-- neither a filter nor a column names one of them.
+local function is_unseen(tree, parts)
+    if tree.visible or referenced(tree, record_field) or referenced(tree, first.verdict) then
+        return false
+    end
+    for i = 1, #parts.eras do
+        if referenced(tree, first[parts.eras[i]]) then
+            return false
+        end
+    end
+    return true
 end
 
 function ipnorm.dissector(tvb, pinfo, tree)
+    local run = now.run
     if not run then
         return
     end
-    local parts, behind
-    if not run.fault then
-        parts, behind = lines_of(pinfo.number)
-    end
-    local fault = fault_of(tvb, pinfo, parts)
-    local item = tree:add(ipnorm):set_generated()
+    local fault, other = fault_of(run, tvb, pinfo)
     if fault then
-        item:append_text(": " .. fault)
-        item:add(error_field, fault):set_generated()
+        local item = generated(add(tree, ipnorm, ipnorm.description .. ": " .. fault))
+        local below = generated(add(item, error_field, fault))
+        if other then
+            info(below, experts.mismatch, fault)
+        end
         return
     end
-    item:append_text(": " .. summary_of(parts))
-    item:add(record_field, parts.number):set_generated()
-    add_line(item, first, parts)
-    if ipnorm.prefs.capture == 0 and (run.out[parts.number + 1] or #run.frame) > run.out[parts.number] then
-        item:add(out_field, run.out[parts.number] + 1):set_generated()
+    local parts = run.parts
+    local item = generated(add(tree, ipnorm, parts.title))
+    if parts.plain and not run.both and is_unseen(tree, parts) then
+        return
     end
-    for _, other in ipairs(behind) do
-        local below = item:add(ipnorm, ("Second engine, frame %d: %s"):format(other.number, summary_of(other)))
-        add_line(below:set_generated(), second, other)
+    generated(add(item, record_field, run.number))
+    add_line(item, first, parts)
+    if parts.verdict ~= "pass" and run.written > 0 and not run.out then
+        generated(add(item, out_field, run.before + 1))
+    end
+    if run.both then
+        add_second(item, run, pinfo)
     end
 end
 

@@ -1,0 +1,137 @@
+"""How IN is opened: finds out what it is, and which programs turn it into a capture that norm
+reads."""
+
+import os
+import shutil
+import struct
+import subprocess
+from shlex import quote
+
+from .words import Refused
+
+# The octets that a compressed file begins with, and the program that unpacks it.
+PACKED = {b"\x1f\x8b": "gzip", b"\xfd7zXZ\0": "xz", b"\x28\xb5\x2f\xfd": "zstd"}
+
+# The octets that a capture begins with: its byte order, and its name for editcap.
+CLASSIC = {b"\xa1\xb2\xc3\xd4": (">", "pcap"), b"\xd4\xc3\xb2\xa1": ("<", "pcap"),
+           b"\xa1\xb2\x3c\x4d": (">", "nsecpcap"), b"\x4d\x3c\xb2\xa1": ("<", "nsecpcap")}
+SECTION, INTERFACE = b"\x0a\x0d\x0d\x0a", 1
+
+# Links whose header is removed: its octets, and its name.
+HEADERS = {113: (16, "Linux cooked mode, version 1"), 276: (20, "Linux cooked mode, version 2"),
+           0: (4, "a NULL header"), 108: (4, "a loopback header")}
+
+# Other links that norm does not read, and what to do.
+OTHERS = {9: "PPP: editcap -C 4 (with address octets) or -C 2, -L -T rawip, makes raw IP of it",
+          105: "802.11: capture after the access point, on Ethernet",
+          127: "802.11: capture after the access point, on Ethernet"}
+
+# Octets that are read ahead.
+AHEAD = 65536
+
+
+def tool(name, use):
+    """Returns the path of a program of the system, or refuses."""
+    path = shutil.which(name)
+    if path is None:
+        raise Refused(5, "%s is missing, and %s" % (name, use))
+    return path
+
+
+def front_of(path, unpack):
+    """Returns the first octets of a file, unpacked."""
+    if unpack is None:
+        with open(path, "rb") as file:
+            return file.read(AHEAD)
+    with subprocess.Popen([*unpack, path], stdout=subprocess.PIPE, stderr=subprocess.DEVNULL) as process:
+        front = process.stdout.read(AHEAD)
+        process.kill()
+    return front
+
+
+def link_of_blocks(front):
+    """Returns the link of the first interface of a pcapng file, or None."""
+    order = "<" if front[8:12] == b"\x4d\x3c\x2b\x1a" else ">"
+    at = 0
+    while at + 12 <= len(front):
+        kind, length = struct.unpack_from(order + "II", front, at)
+        if kind == INTERFACE:
+            return struct.unpack_from(order + "H", front, at + 8)[0]
+        if length < 12:
+            return None
+        at += length
+    return None
+
+
+def form_of(front):
+    """Returns the name of the format for editcap and the link, None where there is none."""
+    if front[:4] == SECTION:
+        return "pcapng", link_of_blocks(front)
+    order, form = CLASSIC.get(front[:4], (None, None))
+    if form is None or len(front) < 24:
+        return form, None
+    return form, struct.unpack_from(order + "I", front, 20)[0] & 0xFFFF
+
+
+class Opened:
+    """How IN is opened: the commands of a pipe that has the capture, none for a plain file, and
+    what they do."""
+
+    def __init__(self, path, link, repair):
+        self.path, self.link, self.repair = path, link, repair
+        self.commands, self.did = [], []
+
+    def rename(self, path):
+        """Replaces the name of IN in what is printed about it."""
+        self.commands = [[path if it == self.path else it for it in words] for words in self.commands]
+        self.path = path
+
+    def note(self, text):
+        if text not in self.did:
+            self.did.append(text)
+
+
+def look(path, repair):
+    """Finds out what IN is; returns how it is opened."""
+    if os.path.exists(path) and not os.path.isfile(path):
+        raise Refused(5, "%s is no regular file: IN is read more than once; give it to standard input, as -" % path)
+    try:
+        with open(path, "rb") as file:
+            start = file.read(6)
+    except OSError as fault:
+        raise Refused(5, "%s: %s" % (path, fault.strerror)) from None
+    packed = next((name for mark, name in PACKED.items() if start.startswith(mark)), None)
+    unpack = None if packed is None else [tool(packed, path + " is packed by it"), "-dc"]
+    form, link = form_of(front_of(path, unpack))
+    opened = Opened(path, link, repair)
+    if unpack:
+        opened.commands.append([*unpack, path])
+        opened.did.append("unpacked by %s" % packed)
+    if form and (link in HEADERS or repair):
+        edit = [tool("editcap", "removes headers and repairs captures: wireshark-common has it"), "-F", form]
+        if link in HEADERS:
+            octets, name = HEADERS[link]
+            edit += ["-C", str(octets), "-L", "-T", "rawip"]
+            opened.did.append("%s: editcap removed the %d octets before IPv4" % (name, octets))
+        opened.commands.append([*edit, "-" if unpack else path, "-"])
+    return opened
+
+
+def keep_standard_input(source, path, show):
+    """Copies standard input into a file, since each view reads IN again."""
+    octets = 0
+    with open(path, "wb") as file:
+        while True:
+            block = source.read(1 << 20)
+            if not block:
+                return
+            file.write(block)
+            octets += len(block)
+            show(octets)
+
+
+def shown_command(opened, words):
+    """Returns a command on IN as a shell takes it; IN is one of the words."""
+    pipe = [" ".join(map(quote, [os.path.basename(it[0]), *it[1:]])) for it in opened.commands]
+    words = [("/dev/stdin" if pipe else opened.path) if it == "IN" else it for it in words]
+    return " | ".join([*pipe, " ".join(map(quote, words))])
