@@ -1,0 +1,1 @@
+"""norm-bridge between two hosts."""

@@ -1,4 +1,4 @@
-"""Parts of check/bridge: norm is killed or stopped, the bridge starts in mid-connection, links
+"""Parts of check/live/bridge: norm is killed or stopped, the bridge starts in mid-connection, links
 go down, a disk is full."""
 
 import os
@@ -7,7 +7,8 @@ import time
 from contextlib import closing
 
 from live.network import INNER, OUTER
-from live.parts import Fault, ended, part, require, rest, sums_of_norm
+from lib.outcome import Fault
+from live.parts import ended, part, require, rest, sums_of_norm
 from live.program import report_end
 from live.raw import frames_of
 from live.traffic import talking, web
@@ -23,7 +24,8 @@ class Some:
 
     def __init__(self, line):
         self.line = line
-        self.frames = [(frames_of(line, host, protocol=0), [frame for name, frame in kinds(line, host) if name in ("given", "arp")])
+        self.frames = [(frames_of(line, host, protocol=0),
+                        [frame for name, frame in kinds(line, host) if name in ("given", "arp")])
                        for host in ("outside", "hosts")]
 
     def passed(self, seconds):
@@ -75,7 +77,8 @@ def restarted(trial):
         bridge.kill_norm()
         time.sleep(1.2)
         require(bridge.await_norm(), "norm is killed, and not started again")
-        require(all(transfer.poll() is None for _, transfer in both), "a transfer has ended before norm was killed again")
+        require(all(transfer.poll() is None for _, transfer in both),
+                "a transfer has ended before norm was killed again")
         seconds = down(line, bridge)
         for one, transfer in both:
             fault = one.fault(transfer)
@@ -114,13 +117,15 @@ def cold(trial):
                 time.sleep(0.3)
                 early(bridge)
                 with trial.bridge(rested=False) as second:
-                    require(talker.wait(10 * CONNECTIONS), "the connections do not go on: %s" % (talker.fault or "they are silent"))
+                    require(talker.wait(10 * CONNECTIONS),
+                            "the connections do not go on: %s" % (talker.fault or "they are silent"))
                     fault = server.fault(transfer)
                     require(fault is None, "the transfer: %s" % fault)
                     talker.ended.set()
                     talker.thread.join(25)
                     ended(second)
-    return "ended in a transfer with status 0 and its counts, and started again: it and %d connections go on" % CONNECTIONS
+    return ("ended in a transfer with status 0 and its counts, and started again: it and %d connections go on"
+            % CONNECTIONS)
 
 
 def early(bridge):
@@ -144,7 +149,8 @@ def overload(trial):
             bridge.kill_norm(signal.SIGCONT)
         require(line.answers(5), "norm goes on, and nothing passes")
         counts = ended(bridge)
-    return "norm stopped while %d frames of %d octets arrive: %d dropped by the kernel, and each counted" % (count, len(frame) + 1400, counts["outside.kernel"])
+    return ("norm stopped while %d frames of %d octets arrive: %d dropped by the kernel, and each counted"
+            % (count, len(frame) + 1400, counts["outside.kernel"]))
 
 
 @part("links down")
@@ -152,15 +158,19 @@ def links(trial):
     line = trial.line
     with trial.bridge() as bridge:
         with talking(line, CONNECTIONS, 0.01) as talk:
-            for what, host, device in (("an interface of the bridge", "bridge", INNER), ("the other end of its link", "hosts", "eth0"),
+            for what, host, device in (("an interface of the bridge", "bridge", INNER),
+                                       ("the other end of its link", "hosts", "eth0"),
                                        ("the other interface of the bridge", "bridge", OUTER)):
-                require(talk.wait(5 * CONNECTIONS), "%s goes down: the connections do not talk before: %s" % (what, talk.fault))
+                require(talk.wait(5 * CONNECTIONS),
+                        "%s goes down: the connections do not talk before: %s" % (what, talk.fault))
                 line.ip(host, "link", "set", device, "down")
                 time.sleep(0.5)
                 line.ip(host, "link", "set", device, "up")
                 line.route_out()
-                require(bridge.ended(0.3) is None, "%s goes down, and the bridge ends: %s" % (what, bridge.words()[-200:].strip()))
-                require(talk.wait(5 * CONNECTIONS, 15), "%s was down, and the connections do not go on: %s" % (what, talk.fault))
+                require(bridge.ended(0.3) is None,
+                        "%s goes down, and the bridge ends: %s" % (what, bridge.words()[-200:].strip()))
+                require(talk.wait(5 * CONNECTIONS, 15),
+                        "%s was down, and the connections do not go on: %s" % (what, talk.fault))
         try:
             line.ip("bridge", "link", "del", OUTER)
             status = bridge.ended(5)

@@ -1,4 +1,4 @@
-"""Parts of check/bridge: attacks from outside, as a real server and monitors read them; forged
+"""Parts of check/live/bridge: attacks from outside, as a real server and monitors read them; forged
 sides; a flood of SYNs."""
 
 import itertools
@@ -9,15 +9,15 @@ import sys
 import time
 from types import SimpleNamespace
 
-from captured.network import INSIDE, OUTSIDE, TALK
-from captured.talk import ECHO
+from lib.network import INSIDE, OUTSIDE, TALK
+from lib.talk import ECHO
 from live.attacks import of_two_eras, played
 from live.parts import ended, part, require, rest
 from live.program import total
 from live.raw import caught, ethernet, flood, frames_of, segment
 from live.traffic import talking
-from norm_model.formats import ACK, RST, read_ipv4, read_tcp
-from norm_model.receivers import agree
+from model.formats import ACK, RST, read_ipv4, read_tcp
+from model.receivers import agree
 from receivers import monitors
 from receivers.attacks import chosen
 
@@ -32,7 +32,8 @@ def attacks(trial):
     with trial.place() as folder:
         versions, _ = monitors.available(folder)
         require(versions, "no monitor: tshark, tcpflow or libnids")
-        asked = SimpleNamespace(norm=trial.asked.norm, count=trial.asked.random, seed=trial.asked.seed, files=[], prefixes="", in_for_out=False)
+        asked = SimpleNamespace(norm=trial.asked.norm, count=trial.asked.random, seed=trial.asked.seed, files=[],
+                                prefixes="", in_for_out=False)
         every = list(chosen(asked, folder, time.monotonic() + 40))
         with line.plain_bridge():
             plain, names = played(line, every, list(versions), folder)
@@ -41,13 +42,15 @@ def attacks(trial):
             rest(line)
             bridge.end()
             twice = of_two_eras(kept)
-            faults, across = (split(found, names, lambda one, both=both: (one.ends in twice) == both) for both in (False, True))
+            faults, across = (split(found, names, lambda one, both=both: (one.ends in twice) == both)
+                              for both in (False, True))
             require(not faults, "%d of %d: %s" % (len(faults), len(every), shown(every, faults)))
             ended(bridge)
     differ = split(plain, names)
     require(names and differ, "nobody reads other octets behind a plain bridge: nothing was tried")
     return "%d: the server and %s read other octets in %d with a plain bridge, in 0 with norm (%d octets read)%s%s" % (
-        len(every), ", ".join(names), len(differ), octets_of(found), "; left out: %d connections in two eras, %d of which differ" % (len(twice), len(across)),
+        len(every), ", ".join(names), len(differ), octets_of(found),
+        "; left out: %d connections in two eras, %d of which differ" % (len(twice), len(across)),
         "".join("; %s does not end in time" % name for name in versions if name not in names))
 
 
@@ -70,7 +73,8 @@ def split(every, names, wanted=lambda connection: True):
 
 def shown(every, faults):
     """Three of the attacks of which two read other octets."""
-    parts = ["%s: %s reads %r, and %s %r" % (every[number].name, one.receiver, one.octets[:40], other.receiver, other.octets[:40])
+    parts = ["%s: %s reads %r, and %s %r"
+             % (every[number].name, one.receiver, one.octets[:40], other.receiver, other.octets[:40])
              for number, (one, other) in itertools.islice(faults.items(), 3)]
     return "; ".join(parts)
 
@@ -117,7 +121,8 @@ class Opened:
 
     def answers(self, frame):
         """Whether a frame is a segment of the server with octets."""
-        return frame[12:14] == b"\x08\0" and frame[23] == 6 and frame[26:30] == socket.inet_aton(INSIDE) and len(self.segment_of(frame).payload) > 0
+        return (frame[12:14] == b"\x08\0" and frame[23] == 6 and frame[26:30] == socket.inet_aton(INSIDE)
+                and len(self.segment_of(frame).payload) > 0)
 
     def close(self):
         self.peer.close()
@@ -137,7 +142,8 @@ def forged_sides(trial):
         counts = ended(bridge)
     forged = total(counts, "forged")
     require(forged == len(FORGERIES), "%d forged frames are counted, of %d" % (forged, len(FORGERIES)))
-    return "%d dropped and counted: acknowledgments and resets of the other side; the connection goes on" % len(FORGERIES)
+    return ("%d dropped and counted: acknowledgments and resets of the other side; the connection goes on"
+            % len(FORGERIES))
 
 
 # A forged frame: what it is, the host that sends it, whether the inside is its source, the flags,
@@ -156,7 +162,8 @@ def forge_all(line, opened):
     require(opened.talk(), "the connection does not begin")
     for what, host, of_inside, flags, ahead, acked in FORGERIES:
         other = "hosts" if host == "outside" else "outside"
-        seq, ack = (opened.following + ahead, opened.acked + acked) if of_inside else (opened.acked + ahead, opened.following + acked)
+        seq, ack = ((opened.following + ahead, opened.acked + acked) if of_inside
+                    else (opened.acked + ahead, opened.following + acked))
         packet = segment(opened.ends if of_inside else opened.ends[::-1], seq % 2**32, ack % 2**32, flags)
         with frames_of(line, host, protocol=0) as sender, frames_of(line, host) as taker, frames_of(line, other) as across:
             sender.send(ethernet(line, host, other, packet))
@@ -173,12 +180,14 @@ def flooded(trial):
     with trial.bridge(after=("--flows", str(FLOWS))) as bridge, talking(line, CONNECTIONS) as talk:
         require(talk.wait(CONNECTIONS), "the connections do not begin: %s" % talk.fault)
         before, begun = talk.exchanges, time.monotonic()
-        sender = multiprocessing.get_context("fork").Process(target=flood, args=(line, INSIDE, ECHO, count, RATE), daemon=True)
+        sender = multiprocessing.get_context("fork").Process(target=flood, args=(line, INSIDE, ECHO, count, RATE),
+                                                             daemon=True)
         sender.start()
         sender.join(90)
         require(sender.exitcode == 0, "the sender ends with %s" % sender.exitcode)
         seconds, exchanges = time.monotonic() - begun, talk.exchanges - before
-        require(talk.wait(10 * CONNECTIONS), "after the flood the connections do not go on: %s" % (talk.fault or "they are silent"))
+        require(talk.wait(10 * CONNECTIONS),
+                "after the flood the connections do not go on: %s" % (talk.fault or "they are silent"))
         require(talk.fault is None, talk.fault)
         longest = talk.longest
         talk.ended.set()

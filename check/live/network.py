@@ -18,7 +18,7 @@ import threading
 import time
 from contextlib import contextmanager
 
-from captured.network import INSIDE, OFFLOADS, OUTSIDE, Network, missing
+from lib.network import INSIDE, OFFLOADS, OUTSIDE, Network, missing
 
 NEW_NETWORK, HARDWARE_ADDRESS = 0x40000000, 0x8927
 
@@ -30,7 +30,8 @@ PREFIX = "10.0.0.0/8"
 OUTER, INNER = "ext", "int"
 
 # Kernel parameters of each namespace, below /proc/sys/net.
-SETTINGS = {"ipv6/conf/all/disable_ipv6": 1, "ipv6/conf/default/disable_ipv6": 1, "ipv4/conf/all/rp_filter": 0, "ipv4/conf/default/rp_filter": 0,
+SETTINGS = {"ipv6/conf/all/disable_ipv6": 1, "ipv6/conf/default/disable_ipv6": 1, "ipv4/conf/all/rp_filter": 0,
+            "ipv4/conf/default/rp_filter": 0,
             "ipv4/ip_forward": 0, "ipv4/icmp_ratelimit": 0}
 
 DEVICES = (("outside", "eth0"), ("bridge", OUTER), ("bridge", INNER), ("hosts", "eth0"))
@@ -38,7 +39,7 @@ DEVICES = (("outside", "eth0"), ("bridge", OUTER), ("bridge", INNER), ("hosts", 
 
 def lacking():
     """Returns why there can be no such line, or None."""
-    return missing() or (None if shutil.which("ethtool") else "ethtool")
+    return missing() or next((tool for tool in ("ethtool", "ping") if shutil.which(tool) is None), None)
 
 
 class Line(Network):
@@ -108,11 +109,12 @@ class Line(Network):
         /sys/class/net/*/statistics."""
         with self.within("bridge"), open("/proc/thread-self/net/dev", encoding="ascii") as file:
             found = {name.strip(): numbers.split() for name, _, numbers in (line.partition(":") for line in file)}
-        return {(device, name): int(found[device][at]) if device in found else 0 for device in (OUTER, INNER) for name, at in COLUMNS.items()}
+        return {(device, name): int(found[device][at]) if device in found else 0 for device in (OUTER, INNER)
+                for name, at in COLUMNS.items()}
 
     @contextmanager
     def plain_bridge(self):
-        """Linux's own bridge between the two interfaces, in the place of norm-bridge."""
+        """Linux's bridge between the two interfaces, in place of norm-bridge."""
         self.ip("bridge", "link", "add", "br0", "type", "bridge", "stp_state", "0", "mcast_snooping", "0")
         try:
             for device in (OUTER, INNER):
@@ -126,7 +128,8 @@ class Line(Network):
         """Returns whether a host inside answers an echo request of the outside one in time."""
         deadline = time.monotonic() + seconds
         while (left := deadline - time.monotonic()) > 0:
-            asked = ["ping", "-n", "-q", "-c", "1", "-i", "0.02", "-w", "%d" % max(1, left), INSIDE]        # It ends early if nothing answers ARP.
+            asked = ["ping", "-n", "-q", "-c", "1", "-i", "0.02", "-w", "%d" % max(1, left),
+                     INSIDE]        # It ends early if nothing answers ARP.
             if self.run("outside", *asked, check=False).returncode == 0:
                 return True
         return False

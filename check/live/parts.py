@@ -1,12 +1,12 @@
-"""The parts of check/bridge: how they are listed and run, and what they are given."""
+"""The parts of check/live/bridge: how they are listed, and what they are given."""
 
 import os
 import shutil
-import subprocess
 import tempfile
 import time
 from contextlib import contextmanager
 
+from lib.outcome import Fault
 from live.network import INNER, OUTER
 from live.program import bridged, report_end, total
 
@@ -16,10 +16,6 @@ FATES = ("given", "arp", "forged", "unjudged", "too-long", "down")
 # A part is a name, the programs of the system that it needs, and a function that returns what it
 # measured.
 PARTS = []
-
-
-class Fault(Exception):
-    """A bridge does not do what it has to."""
 
 
 def part(name, *needs):
@@ -52,28 +48,11 @@ class Trial:
 
     @contextmanager
     def bridge(self, *options, after=(), before=(), rested=True):
-        """norm-bridge with a report, in a folder of its own. `rested`: nothing talks yet, so
-        that its counts can be compared with those of the interfaces."""
+        """norm-bridge with a report, in its own folder. `rested`: nothing talks yet, so that its
+        counts can be compared with those of the interfaces."""
         with self.place() as folder, bridged(self.line, self.asked, folder, ["--report", os.path.join(folder, "report"), *options], after, before) as made:
             made.base = base(made) if rested else None
             yield made
-
-
-def run(trial, name, needs, work):
-    """Runs one part and prints its line. Returns True, False, or None where it was not run."""
-    lacking = [tool for tool in needs if shutil.which(tool) is None]
-    if lacking:
-        print("bridge, %s: not run, since it needs: %s" % (name, " ".join(lacking)), flush=True)
-        return None
-    begun = time.monotonic()
-    try:
-        said, right = work(trial), True
-    except Fault as fault:
-        said, right = "FAULT: %s" % fault, False
-    except (OSError, ValueError, KeyError, subprocess.SubprocessError) as fault:
-        said, right = "FAULT: %s: %s" % (type(fault).__name__, fault), False
-    print("%-18s %s, %.1f s" % (name, said, time.monotonic() - begun), flush=True)
-    return right
 
 
 # Counts
@@ -91,10 +70,10 @@ def rest(line, seconds=5):
     return None
 
 
-def base(bridge):
+def base(bridge, seconds=5):
     """What the interfaces and the bridge have counted at rest: an interface counts also what
     arrives before it is read. None if there is no rest."""
-    while (before := rest(bridge.line)) is not None:
+    while (before := rest(bridge.line, seconds)) is not None:
         counts = bridge.counts()
         if bridge.line.statistics() == before:
             return before, counts
@@ -104,13 +83,16 @@ def base(bridge):
 def ended(bridge):
     """Ends the bridge at rest, and compares its counts with those of the report and, if it began
     at rest, of the interfaces. Returns the counts."""
-    rest(bridge.line)
+    settled = base(bridge, 20) if bridge.ended(0) is None else None
     status = bridge.end()
     require(status == 0, "asked to end, it ends with %s: %s" % (status, bridge.words()[-200:].strip()))
     counts, report = bridge.last_counts(), report_end(bridge.folder)
     facts = list(sums(counts)) + list(sums_of_norm(counts, report))
     if bridge.base is not None:
-        facts += sums_of_interfaces(bridge.base, (bridge.line.statistics(), counts))
+        # The interfaces alone count what arrives while it ends, such as the ends of connections.
+        now = bridge.line.statistics()
+        same = settled is None or now == settled[0]
+        facts += sums_of_interfaces(bridge.base, (now, counts) if same else settled)
     for fact, what in facts:
         require(fact, what + ": " + shown(counts))
     return counts
@@ -132,7 +114,8 @@ def sums(counts):
 def sums_of_interfaces(before, after):
     """The frames that the interfaces counted, at rest."""
     for side, device in (("outside", OUTER), ("inside", INNER)):
-        risen = {what: after[1][side + "." + what] - before[1][side + "." + what] for what in ("received", "kernel", "sent")}
+        risen = {what: after[1][side + "." + what] - before[1][side + "." + what]
+                 for what in ("received", "kernel", "sent")}
         arrived, sent = (after[0][device, what] - before[0][device, what] for what in ("rx_packets", "tx_packets"))
         yield risen["received"] + risen["kernel"] == arrived, "%d frames arrived %s, and it counts %d" % (arrived, side, risen["received"] + risen["kernel"])
         yield risen["sent"] == sent, "%d frames were sent %s, and it counts %d" % (sent, side, risen["sent"])

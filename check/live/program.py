@@ -11,7 +11,7 @@ import time
 from contextlib import contextmanager
 
 from live.network import INNER, OUTER, PREFIX
-from programs import TOP
+from lib.programs import TOP
 
 SOURCE = os.path.join(TOP, "contrib", "bridge")
 
@@ -29,7 +29,8 @@ def built(folder):
         return None, "cc"
     path = os.path.join(folder, "norm-bridge")
     sources = sorted(os.path.join(SOURCE, name) for name in os.listdir(SOURCE) if name.endswith(".c"))
-    made = subprocess.run(["cc", *FLAGS, "-o", path, *sources, "-lpcap"], stderr=subprocess.PIPE, text=True, check=False)
+    made = subprocess.run(["cc", *FLAGS, "-o", path, *sources, "-lpcap"], stderr=subprocess.PIPE, text=True,
+                          check=False)
     if made.returncode == 0:
         return path, None
     if "pcap.h" in made.stderr:
@@ -43,9 +44,11 @@ class Bridge:
     def __init__(self, line, asked, folder, options=(), after=(), before=()):
         self.line, self.folder, self.base = line, folder, None
         self.said = os.path.join(folder, "said")
-        words = [*before, asked.bridge, "--norm", asked.norm, *options, OUTER, INNER, PREFIX, *(["--", *after] if after else [])]
+        words = [*before, asked.bridge, "--norm", asked.norm, *options, OUTER, INNER, PREFIX,
+                 *(["--", *after] if after else [])]
         with open(self.said, "wb") as file:
-            self.process = line.start("bridge", *words, stdin=subprocess.DEVNULL, stdout=subprocess.DEVNULL, stderr=file)
+            self.process = line.start("bridge", *words, stdin=subprocess.DEVNULL, stdout=subprocess.DEVNULL,
+                                      stderr=file)
 
     def words(self):
         """Returns what it wrote to standard error."""

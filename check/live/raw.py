@@ -4,7 +4,7 @@ import socket
 import struct
 import time
 
-from norm_model.packets import address, ipv4, tcp
+from model.packets import address, ipv4, tcp
 
 IPV4_TYPE, ALL_TYPES, OUTGOING, TCP_PROTOCOL = b"\x08\0", 3, 4, 6
 

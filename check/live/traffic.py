@@ -14,8 +14,8 @@ import threading
 import time
 from contextlib import contextmanager
 
-from captured.network import INSIDE, OUTSIDE, TALK
-from captured.talk import ECHO
+from lib.network import INSIDE, OUTSIDE, TALK
+from lib.talk import ECHO
 
 ADDRESS = {"outside": OUTSIDE, "hosts": INSIDE}
 
@@ -35,7 +35,8 @@ socketserver.ThreadingTCPServer((sys.argv[1], int(sys.argv[3])), handler).serve_
 def ping(line, host, count, length=56):
     """Returns how many echo requests of this length are answered, and the median round trip in
     milliseconds."""
-    words = ["ping", "-n", "-i", "0.01", "-c", str(count), "-W", "2", "-s", str(length), "-M", "do", ADDRESS[OTHER[host]]]
+    words = ["ping", "-n", "-i", "0.01", "-c", str(count), "-W", "2", "-s", str(length), "-M", "do",
+             ADDRESS[OTHER[host]]]
     times = re.findall(rb"time=([\d.]+) ms", line.run(host, *words, check=False).stdout)
     return len(times), sorted(map(float, times))[len(times) // 2] if times else 0
 
@@ -53,13 +54,16 @@ class Web:
                 file.write(os.urandom(1000000))
             file.write(os.urandom(octets % 1000000))
         self.sum = sha256(os.path.join(self.folder, "file"))
-        self.server = line.start(host, sys.executable, "-c", SERVE, ADDRESS[host], self.folder, str(WEB), stdout=subprocess.DEVNULL, stderr=subprocess.DEVNULL)
+        self.server = line.start(host, sys.executable, "-c", SERVE, ADDRESS[host], self.folder, str(WEB),
+                                 stdout=subprocess.DEVNULL, stderr=subprocess.DEVNULL)
         wait_for_port(line, host, WEB)
 
     def begin(self, seconds, rate=None):
         """Begins a transfer to the other host, which ends by itself."""
-        words = ["curl", "-s", "-S", "-m", str(seconds), "-o", self.taken(), "http://%s:%d/file" % (ADDRESS[self.host], WEB)]
-        return self.line.start(OTHER[self.host], *words, *(["--limit-rate", str(rate)] if rate else []), stderr=subprocess.PIPE, text=True)
+        words = ["curl", "-s", "-S", "-m", str(seconds), "-o", self.taken(),
+                 "http://%s:%d/file" % (ADDRESS[self.host], WEB)]
+        return self.line.start(OTHER[self.host], *words, *(["--limit-rate", str(rate)] if rate else []),
+                               stderr=subprocess.PIPE, text=True)
 
     def taken(self):
         return os.path.join(self.folder, "taken")

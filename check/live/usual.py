@@ -1,24 +1,24 @@
-"""Parts of check/bridge: words that are refused, and traffic that has to pass as it does without
-a bridge."""
+"""Parts of check/live/bridge: invalid arguments, and traffic that has to pass as it does without a
+bridge."""
 
 import os
 import signal
 import struct
 import time
 
-from captured.network import INSIDE, OUTSIDE
+from lib.network import INSIDE, OUTSIDE
 from live.network import INNER, OUTER, PREFIX
 from live.parts import ended, part, require, shown
 from live.program import total
 from live.raw import ethernet, frames_of
 from live.traffic import iperf, ping, talking, web
-from norm_model.packets import address, ipv4, udp
+from model.packets import address, ipv4, udp
 
 OCTETS, CONNECTIONS = 10**8, 100
 
 NO_OPTIONS = ()
 
-# Words that are refused before anything passes: options, what OUTSIDE and INSIDE are, a prefix,
+# Invalid arguments, refused before anything passes: options, what OUTSIDE and INSIDE are, a prefix,
 # words for norm.
 REFUSED = {
     "an interface that does not exist": (NO_OPTIONS, ("none", INNER, PREFIX), NO_OPTIONS),
@@ -35,11 +35,13 @@ def refused(trial, what, options, words, after):
     """Runs norm-bridge with words that it has to refuse."""
     line, asked = trial.line, trial.asked
     norm = [] if "--norm" in options else ["--norm", asked.norm]
-    command = line.command("bridge", ["timeout", "5", asked.bridge, *norm, *options, *words, *(["--", *after] if after else [])])
+    command = line.command("bridge",
+                           ["timeout", "5", asked.bridge, *norm, *options, *words, *(["--", *after] if after else [])])
     process = line.start("bridge", *command[4:], stderr=-1, stdout=-3, text=True)
     said = process.communicate()[1]
     line.end(process)
-    require(process.returncode == 2, "%s: it ends with %d and not 2: %s" % (what, process.returncode, said.strip()[-200:]))
+    require(process.returncode == 2,
+            "%s: it ends with %d and not 2: %s" % (what, process.returncode, said.strip()[-200:]))
     require(said.count("\n") == 1, "%s: %d lines on standard error" % (what, said.count("\n")))
 
 
@@ -67,7 +69,9 @@ def pings(trial):
             line.ip(host, "neighbour", "flush", "all")
         found = {(host, length): ping(line, host, 20, length) for host in ("outside", "hosts") for length in (56, 1472)}
         for (host, length), (count, _) in found.items():
-            require(count == 20, "%d of 20 echo requests of %d octets from the %s are answered: %s" % (count, length, host, shown(bridge.counts())))
+            require(count == 20,
+                    "%d of 20 echo requests of %d octets from the %s are answered: %s"
+                    % (count, length, host, shown(bridge.counts())))
         ended(bridge)
     return "80 echo requests answered both ways, %.2f ms the median" % max(time for _, time in found.values())
 
@@ -107,7 +111,8 @@ def three_norms(trial):
         status = bridge.ended(10)
         require(status == 1, "one of three is killed, and the bridge ends with %s and not 1" % status)
         require(not bridge.norms(), "one of three is killed, and others run on")
-    return "%d hosts and a transfer, %d frames counted in three reports; one is killed: status 1" % (len(hosts), total(counts, "given"))
+    return ("%d hosts and a transfer, %d frames counted in three reports; one is killed: status 1"
+            % (len(hosts), total(counts, "given")))
 
 
 @part("iperf3", "iperf3")
@@ -133,7 +138,8 @@ def kinds(line, host):
 
     def arp(sender, target):
         head = struct.pack("!HHBBH", 1, 0x0800, 6, 4, 1)
-        return head + line.mac(host) + address(sender).to_bytes(4, "big") + bytes(6) + address(target).to_bytes(4, "big")
+        return (head + line.mac(host) + address(sender).to_bytes(4, "big") + bytes(6)
+                + address(target).to_bytes(4, "big"))
 
     yield "given", frame(b"\x08\0", datagram(here, there))
     yield "forged", frame(b"\x08\0", datagram(there, here))
@@ -162,6 +168,7 @@ def counted(trial):
     risen = {what: total(now, what) - total(before, what) for what in ("given", "arp", "forged", "unjudged")}
     for what in ("given", "arp", "forged"):
         require(risen[what] >= sent[what], "%d frames are counted as %s, of %d" % (risen[what], what, sent[what]))
-    dropped, wanted = risen["forged"] + risen["unjudged"], sum(sent[what] for what in ("forged", "forged arp", "unjudged"))
+    dropped, wanted = risen["forged"] + risen["unjudged"], sum(sent[what]
+                                                               for what in ("forged", "forged arp", "unjudged"))
     require(dropped == wanted, "%d frames are counted as forged or not judged, of %d" % (dropped, wanted))
     return "%d frames of %d kinds: each counted, as the interfaces and the report count them" % (sum(sent.values()), 7)

@@ -1,14 +1,15 @@
-"""Makes a written capture and its report from a number: those of a run, most of them changed in one or two places, or of frames that no run wrote."""
+"""Makes a written capture and its report from a number: those of a run, most of them changed in one
+or two places, or of frames that no run wrote."""
 
 import random
 
 from makers.files import make_capture
-from norm_model.built import WHOLE
-from norm_model.capture import ETHERNET, RECORD_HEAD, read_head, read_records, write_head, write_record
-from norm_model.formats import ACK, FIN, PSH, RST, SYN, TCP, read_ipv4, read_tcp, write_ipv4, write_tcp
-from norm_model.packets import INSIDE, OUTSIDE, inward, outward, tcp
-from norm_model.run import run
-from norm_model.words import read_words
+from model.built import WHOLE
+from model.capture import ETHERNET, RECORD_HEAD, read_head, read_records, write_head, write_record
+from model.formats import ACK, FIN, PSH, RST, SYN, TCP, read_ipv4, read_tcp, write_ipv4, write_tcp
+from model.packets import INSIDE, OUTSIDE, inward, outward, tcp
+from model.run import run
+from model.words import read_words
 
 RAW_HEAD = bytes.fromhex("d4c3b2a1020004000000000000000000" "0000040065000000")
 OFFSETS = [0, 0, 0, 1, 2, 3, 5, -1, -2, -5, 1000, 2**31 - 2, 2**31 - 1, -2**31, 1 - 2**31, 2**32 - 2]
@@ -121,7 +122,7 @@ def changed_report(rng, text):
 
 
 def free_frame(rng, base, is_inward):
-    """A frame of few octets whose numbers stand near a base or half a turn from it."""
+    """A frame of few octets whose numbers are near a base or 2^31 from it."""
     number = (base + rng.choice(OFFSETS)) % 2**32
     if not is_inward:
         return outward(TCP, tcp(INSIDE, OUTSIDE, 80, 40000, 5001, number, rng.choice(OUTWARD_FLAGS)))
@@ -138,7 +139,8 @@ def free_audit(rng):
     sides = [rng.random() < 0.6 for _ in range(rng.randrange(1, 9))]
     sides[0] = sides[0] and rng.random() < 0.2
     frames = [free_frame(rng, base, is_inward) for is_inward in sides]
-    lines = ["%d %s pass 1 @%d" % (i, "in" if is_inward else "out", rng.choice([1] * 9 + [2])) for i, is_inward in enumerate(sides, 1)]
+    lines = ["%d %s pass 1 @%d" % (i, "in" if is_inward else "out", rng.choice([1] * 9 + [2]))
+             for i, is_inward in enumerate(sides, 1)]
     text = "\n".join(["norm 2"] + lines + ["end %d %d" % (len(sides), len(sides))]) + "\n"
     return write_head(head) + b"".join(write_record(head, 0, 0, frame) for frame in frames), text, 30
 
@@ -154,7 +156,8 @@ def make_audit(number):
     hops = command.settings.hops if command is not None and command.kind == "run" else 30
     for _ in range(rng.choice([0, 1, 1, 1, 2])):
         if written and rng.random() < 0.8:
-            written = changed_capture(rng, written) if status != 3 and not isinstance(read_head(written), str) else written
+            written = (changed_capture(rng, written) if status != 3 and not isinstance(read_head(written), str)
+                       else written)
         else:
             text = changed_report(rng, text)
     return written, text, hops if rng.random() < 0.9 else rng.randrange(255)

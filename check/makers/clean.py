@@ -1,14 +1,16 @@
-"""Clean traffic of many kinds between inside and outside hosts: nothing of it is bad input, and no note is to be on it.
+"""Clean traffic of many kinds between inside and outside hosts: nothing of it is bad input, and no
+note is to be on it.
 
-A host is a namespace with its address and a count of its packets, from which their identifications are. A talk is a generator of packets in their
-order; talks are mixed by chance. Networks lose, reorder and delay packets before they are captured, so talks have retransmissions and packets out of
+A host is a namespace with its address and a count of its packets, from which their identifications
+are. A talk is a generator of packets in their order; talks are mixed by chance. Networks lose,
+reorder and delay packets before they are captured, so talks have retransmissions and packets out of
 order.
 """
 
 from types import SimpleNamespace
 
-from norm_model.formats import ACK, FIN, ICMP, PSH, RST, SYN, TCP, UDP, two
-from norm_model.packets import address, icmp, ipv4, tcp, udp
+from model.formats import ACK, FIN, ICMP, PSH, RST, SYN, TCP, UDP, two
+from model.packets import address, icmp, ipv4, tcp, udp
 
 INSIDE, OUTSIDE = address("10.0.0.1"), address("198.51.100.7")
 
@@ -53,8 +55,10 @@ class Connection:
     def segment(self, peer, flags, payload=b"", seq=None, options=None):
         other = self.called if peer is self.caller else self.caller
         if options is None:
-            options = b"\1\1\x08\x0a" + two(0) + two(self.rng.randrange(65536)) + two(0) + two(7) if self.stamps and not flags & SYN else b""
-        message = tcp(peer.host.address, other.host.address, peer.port, other.port, (peer.next if seq is None else seq) % 2**32,
+            options = (b"\1\1\x08\x0a" + two(0) + two(self.rng.randrange(65536)) + two(0) + two(7) if self.stamps
+                       and not flags & SYN else b"")
+        message = tcp(peer.host.address, other.host.address, peer.port, other.port,
+                      (peer.next if seq is None else seq) % 2**32,
                       peer.seen % 2**32 if flags & ACK else 0, flags, payload, window=60000, options=options)
         return packet_of(peer.host, other.host, TCP, message, df=True)
 
@@ -73,7 +77,8 @@ class Connection:
         return self.segment(peer, ACK)
 
     def sends(self, peer, sizes):
-        """Segments of these sizes, and acknowledgments of every second one; at times one is lost in the network, late, or sent again."""
+        """Segments of these sizes, and acknowledgments of every second one; at times one is lost in
+        the network, late, or sent again."""
         rng, other = self.rng, self.called if peer is self.caller else self.caller
         flight = []
         for number, size in enumerate(sizes):
@@ -84,11 +89,13 @@ class Connection:
                 flight = []
 
     def flight(self, peer, other, flight):
-        rng, chance = self.rng, self.rng.random()
+        chance = self.rng.random()
         ends = [seq + len(payload) for seq, payload in flight]
-        segments = [self.segment(peer, PSH | ACK if n + 1 == len(flight) else ACK, payload, seq) for n, (seq, payload) in enumerate(flight)]
+        segments = [self.segment(peer, PSH | ACK if n + 1 == len(flight) else ACK, payload, seq) for n,
+                    (seq, payload) in enumerate(flight)]
         if chance < 0.05 and len(flight) == 2:
-            # The network exchanged them, or lost the first one: it is sent again, after the answer to the second one.
+            # The network exchanged them, or lost the first one: it is sent again, after the answer
+            # to the second one.
             yield segments[1]
             yield self.acknowledges(other, flight[0][0])
             yield self.segment(peer, ACK, flight[0][1], flight[0][0])
@@ -173,7 +180,8 @@ def conversation(rng, inside, outside, port):
 
 def lookups(rng, inside, outside, port):
     for _ in range(rng.randrange(1, 10)):
-        yield packet_of(inside, outside, UDP, udp(inside.address, outside.address, port, 53, some_octets(rng, rng.randrange(20, 60))))
+        yield packet_of(inside, outside, UDP,
+                        udp(inside.address, outside.address, port, 53, some_octets(rng, rng.randrange(20, 60))))
         answer, check = some_octets(rng, rng.randrange(40, 300)), rng.choice([None, None, 0])
         yield packet_of(outside, inside, UDP, udp(outside.address, inside.address, 53, port, answer, check=check))
 
@@ -199,7 +207,7 @@ OTHERS = [lookups, pings, large]
 
 
 def traffic(rng, records=600):
-    """At least so many packets of raw IP, of talks that are mixed."""
+    """At least this number of packets of raw IP, of mixed conversations."""
     insides = [host(rng, INSIDE + n) for n in range(3)]
     outsides = [host(rng, OUTSIDE + n) for n in range(4)]
     packets, talks, port = [], [], 40000

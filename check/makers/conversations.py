@@ -1,12 +1,13 @@
-"""Conversations of an outside and an inside host, whose segments stand at the edges of what their era allows."""
+"""Conversations of an outside and an inside host, whose segments stand at the edges of what their
+era allows."""
 
 from makers.datagrams import GOOD_OPTIONS, ODD_OPTIONS, inside_address, octets, outside_address
 from makers.fragments import fragments_of_packet
 from makers.headers import packet_of
 from makers.world import chance, live_era, near
-from norm_model import eras
-from norm_model.formats import ACK, CWR, ECE, FIN, PSH, RST, SYN, TCP, URG
-from norm_model.packets import tcp
+from model import eras
+from model.formats import ACK, CWR, ECE, FIN, PSH, RST, SYN, TCP, URG
+from model.packets import tcp
 
 HALF = 2**31
 
@@ -16,7 +17,8 @@ WINDOWS = [0, 1, 4, 100, 255, 256, 1000, 8192, 65535]
 
 
 def new_host_pair(world):
-    """The two ends, where the numbers of the outside one begin, and a number by which its octets are told."""
+    """The two ends, where the numbers of the outside one begin, and a number by which its octets
+    are told."""
     rng = world.rng
     outside, inside = outside_address(world), inside_address(world)
     return {"key": (outside, 40000 + rng.randrange(4), inside, rng.choice([80, 80, 443])),
@@ -68,9 +70,11 @@ def first_segment(world, pair):
     if choice < 12:
         return packet(world, pair, False, seq, 0, SYN, options=syn_options(world))
     if choice < 14:
-        return packet(world, pair, False, seq, base, rng.choice([ACK, ACK, FIN | ACK, SYN | ACK]), window=pair["window"])
+        return packet(world, pair, False, seq, base, rng.choice([ACK, ACK, FIN | ACK, SYN | ACK]),
+                      window=pair["window"])
     if choice < 17:
-        return packet(world, pair, True, base, seq, rng.choice([ACK, PSH | ACK, FIN | ACK]), octets(world, rng.choice([0, 4])))
+        return packet(world, pair, True, base, seq, rng.choice([ACK, PSH | ACK, FIN | ACK]),
+                      octets(world, rng.choice([0, 4])))
     return packet(world, pair, rng.random() < 0.8, base, seq, rng.choice([RST, RST | ACK, SYN | ACK]))
 
 
@@ -110,10 +114,12 @@ def payload_at(world, pair, place, length):
 
 
 def answered_number(world, pair, era):
-    """The next octet from the other side; where both sides are followed, what the other engine's era would have acknowledged."""
+    """The next octet from the other side; where both sides are followed, what the other engine's
+    era would have acknowledged."""
     other = pair.get("other")
     seen = None if other is None else live_era(other["world"], other["key"])
-    return (eras.out(era) or 0) if seen is None or chance(world, 30) else acknowledged_number(other["world"], other, seen)
+    return ((eras.out(era) or 0) if seen is None or chance(world, 30)
+            else acknowledged_number(other["world"], other, seen))
 
 
 def inbound_data(world, pair, era):
@@ -132,7 +138,8 @@ def inbound_control(world, pair, era):
     answer = 0 if iss is None else near(world, iss + 1, iss + 1, iss)
     if chance(world, 50):
         flags = rng.choice([RST, RST | ACK])
-        place = base if eras.base(era) is None else base + near(world, eras.acked(era), eras.next_place(era), eras.top(era))
+        place = (base if eras.base(era) is None else base
+                 + near(world, eras.acked(era), eras.next_place(era), eras.top(era)))
         return packet(world, pair, True, place, answer, flags, octets(world, 2) if chance(world, 10) else b"")
     flags = rng.choice([SYN, SYN, SYN | ACK])
     seq = rng.choice([base - 1, base - 1, base, base + 70000, rng.randrange(2**32)])
@@ -192,7 +199,8 @@ def next_in_era(world, pair, era):
 
 
 def ending(world, pair, era):
-    """The segments with which both sides end the conversation, as far as the era says what they are."""
+    """The segments with which both sides end the conversation, as far as the era says what they
+    are."""
     if eras.state(era) != "warm":
         return
     yield packet(world, pair, False, eras.out(era), eras.base(era) + eras.top(era), FIN | ACK, window=8192)
@@ -227,10 +235,12 @@ def conversation(world):
 
 
 def either_way(world):
-    """One connection between two hosts that both send what stands at an edge: that of the engine which protects the other one."""
+    """One connection between two hosts that both send what stands at an edge: that of the engine
+    which protects the other one."""
     one = dict(wide_host_pair(world), world=world)
     outside, outside_port, inside, inside_port = one["key"]
-    other = dict(one, world=world.behind, key=(inside, inside_port, outside, outside_port), base=(one["seq"] + 1) % 2**32,
+    other = dict(one, world=world.behind, key=(inside, inside_port, outside, outside_port),
+                 base=(one["seq"] + 1) % 2**32,
                  seq=(one["base"] - 1) % 2**32)
     one["other"], other["other"] = other, one
     return partly_in_fragments(world, taken_in_turn(world, segments(world, one), segments(world.behind, other)))

@@ -1,14 +1,15 @@
 """Bad input: what becomes of clean packets where they are captured or edited wrongly.
 
-A kind of damage takes a random generator and packets of raw IP, and returns the input of a run: records, their link, options and prefixes. It names
-the note that is to find it, if there is one, and the notes that it may have beside it.
+A kind of damage takes a random generator and packets of raw IP, and returns the input of a run:
+records, their link, options and prefixes. It names the note that is to find it, if there is one,
+and the notes that it may have beside it.
 """
 
 from types import SimpleNamespace
 
-from norm_model.capture import ETHERNET, RAW
-from norm_model.formats import TCP, UDP, pseudo_sum, read_ipv4, read_tcp, sum_for, two
-from norm_model.packets import head, ipv4, record
+from model.capture import ETHERNET, RAW
+from model.formats import TCP, UDP, pseudo_sum, read_ipv4, read_tcp, sum_for, two
+from model.packets import head, ipv4, record
 
 PREFIX = "10.0.0.0/8"
 
@@ -31,12 +32,14 @@ def octets_of(packet):
 
 def input_of(packets, options=(), prefixes=(PREFIX,), link=RAW, removed=None):
     """`removed`: the octets that are no longer there, inwards and outwards."""
-    return SimpleNamespace(frames=list(packets), options=list(options), prefixes=list(prefixes), link=link, removed=removed or {"in": 0, "out": 0},
+    return SimpleNamespace(frames=list(packets), options=list(options), prefixes=list(prefixes), link=link,
+                           removed=removed or {"in": 0, "out": 0},
                            original=len)
 
 
 def capture_of(made):
-    records = [record(frame, number // 100, number % 100 * 1000, made.original(frame)) for number, frame in enumerate(made.frames)]
+    records = [record(frame, number // 100, number % 100 * 1000, made.original(frame))
+               for number, frame in enumerate(made.frames)]
     return head(link=made.link) + b"".join(records)
 
 
@@ -55,9 +58,11 @@ def with_octets(packets):
 
 
 def one_in(parts):
-    """One record of so many is missing, at least one with octets."""
+    """One record in this number is missing, at least one with octets."""
     def make(rng, packets):
-        return without(packets, {rng.choice(with_octets(packets)), *rng.sample(range(len(packets)), max(0, len(packets) // parts - 1))})
+        return without(packets,
+                       {rng.choice(with_octets(packets)),
+                        *rng.sample(range(len(packets)), max(0, len(packets) // parts - 1))})
     return make
 
 
@@ -79,7 +84,8 @@ def from_the_midst(rng, packets):
 # Records are elsewhere
 
 def exchanged(rng, packets):
-    """Of each few records the last one is written before the others, as by a card with several queues."""
+    """Of each few records the last one is written before the others, as by a card with several
+    queues."""
     packets, at = list(packets), 0
     while at + 8 < len(packets):
         count = rng.randrange(2, 8)
@@ -100,7 +106,7 @@ def doubled(often, ttl):
 
 
 def routed(packet):
-    """Behind one more router."""
+    """One router further away."""
     return with_header_sum(packet[:8] + bytes([packet[8] - 1]) + packet[9:])
 
 
@@ -126,7 +132,8 @@ def header_sums(rng, packets):
 
 
 def no_lengths(rng, packets):
-    return input_of([packet[:2] + b"\0\0" + packet[4:] if is_outward(packet) and len(packet) > 100 else packet for packet in packets])
+    return input_of([packet[:2] + b"\0\0" + packet[4:] if is_outward(packet) and len(packet) > 100 else packet
+                     for packet in packets])
 
 
 def always(packet):
@@ -137,7 +144,8 @@ def always(packet):
 
 def forged(rng, packets):
     """At the end the outside host acknowledges octets that were never sent."""
-    answers = [packet for packet in packets if read_ipv4(packet).protocol == TCP and not is_outward(packet) and octets_of(packet) == 0]
+    answers = [packet for packet in packets if read_ipv4(packet).protocol == TCP and not is_outward(packet)
+               and octets_of(packet) == 0]
     return input_of(packets + [acknowledging_more(packet) for packet in rng.sample(answers, 10)])
 
 
@@ -165,7 +173,8 @@ def optioned(*options):
 
 def framed(front):
     """Ethernet frames with these octets from the type on."""
-    return lambda rng, packets: input_of([bytes(12) + bytes.fromhex(front) + packet for packet in packets], link=ETHERNET)
+    return lambda rng, packets: input_of([bytes(12) + bytes.fromhex(front) + packet for packet in packets],
+                                         link=ETHERNET)
 
 
 def version_6(rng, packets):
@@ -176,7 +185,8 @@ def version_6(rng, packets):
 
 def tunnelled(rng, packets):
     ends = read_ipv4(packets[0])
-    return input_of([ipv4(ends.src, ends.dst, 47, bytes([0, 0, 8, 0]) + packet, ident=at + 1) for at, packet in enumerate(packets)])
+    return input_of([ipv4(ends.src, ends.dst, 47, bytes([0, 0, 8, 0]) + packet, ident=at + 1)
+                     for at, packet in enumerate(packets)])
 
 
 def cut_short(rng, packets):
@@ -201,23 +211,27 @@ KINDS = [
     kind("5 % removed", one_in(20), "lost", "half"),
     kind("5 in a row removed", in_a_row(5), "lost", "half"),
     kind("50 in a row removed", in_a_row(50), "lost", "half"),
-    kind("exchanged", exchanged, "order", "half"),
+    kind("exchanged", exchanged, "order", "half", "lost"),
     kind("each doubled", doubled(1, False), "twice"),
     kind("some doubled by a router", doubled(0.2, True), "twice"),
-    kind("sums left to the card, outwards", sums(left_to_card, is_outward), "card"),
+    kind("sums left to the card, outwards", sums(left_to_card, is_outward), "card", "half"),
     kind("sums left to the card", sums(left_to_card, always), "card"),
-    kind("header sums left to the card", header_sums, "card"),
+    kind("header sums left to the card", header_sums, "card", "half", "unjudged"),
     kind("lengths left to the card", no_lengths, "card"),
     kind("sums wrong", sums(lambda ip, packet: 1, always), "wrong"),
-    kind("inwards alone", one_direction(False), "one"),
+    kind("inwards alone", one_direction(False), "one", "half"),
     kind("outwards alone", one_direction(True), "one"),
     kind("from the midst on", from_the_midst, "half", "lost"),
-    kind("another prefix", prefixed("192.0.2.0/24"), "foreign"),
-    kind("VLAN tags", framed("810000070800"), "tagged"),
+    kind("another prefix", prefixed("192.0.2.0/24"), "foreign", "unjudged"),
+    kind("another prefix, not judged", prefixed("192.0.2.0/24"), "unjudged", "foreign"),
+    kind("VLAN tags", framed("810000070800"), "tagged", "unjudged"),
+    kind("PPPoE", framed("8864110000010010" + "0021"), "tagged", "unjudged"),
+    kind("MPLS with two labels", framed("88470001004000020140"), "tagged", "unjudged"),
+    kind("another type", framed("88cc"), "unjudged"),
     kind("IPv6", version_6, "ipv6"),
-    kind("a tunnel", tunnelled, "tunnels"),
+    kind("a tunnel", tunnelled, "tunnels", "unjudged"),
     kind("few connections", optioned("--flows=2"), "full", "lost"),
     kind("few cells", optioned("--cells=1"), "full"),
     kind("few cells each", optioned("--quota=1"), "full"),
-    kind("cut short", cut_short, "cut"),
+    kind("cut short", cut_short, "cut", "unjudged"),
 ]

@@ -1,8 +1,8 @@
 """UDP and ICMP messages, and segments by themselves, at the edge of each rule on their headers."""
 
 from makers.world import chance, inside_address, outside_address
-from norm_model.formats import ICMP, TCP, UDP, pseudo_sum, sum_for, two
-from norm_model.packets import icmp, ipv4, tcp, udp
+from model.formats import ICMP, TCP, UDP, pseudo_sum, sum_for, two
+from model.packets import icmp, ipv4, tcp, udp
 
 TYPES = [0, 3, 8, 11, 12, 13, 14, 1, 2, 4, 5, 9, 10, 15, 255]
 
@@ -11,8 +11,10 @@ GOOD_OPTIONS = [b"", b"\1\1\1\1", b"\2\4\5\xb4", b"\1\3\3\7", b"\4\2\1\1", b"\1\
                 b"\1\1\x08\x0a\0\0\0\1\0\0\0\0", b"\0\0\0\0", b"\1\0\0\0", b"\2\4\5\xb4\1\3\3\x0f\4\2\0\0"]
 
 ODD_OPTIONS = [b"\xfe\4\1\2", b"\2\4\5\xb4\2\4\5\xb4", b"\3\3\1\3\3\2\1\1", b"\3\4\1\1", b"\4\3\0\1", b"\2\3\0\1",
-               b"\0\0\0\1", b"\0\1\1\1", b"\0\1\0\0", b"\1\1\x1e\2", b"\x1e\3\7\1", b"\5\2\1\1", b"\5\x0b" + b"\0" * 10, b"\5\x22" + b"\0" * 34,
-               b"\x08\x09" + b"\0" * 8 + b"\0\0", b"\x1e\2\1\1", b"\3\3\4\3\4\1\0\0", b"\5\x0a" + b"\2" * 8 + b"\5\x0a" + b"\3" * 8]
+               b"\0\0\0\1", b"\0\1\1\1", b"\0\1\0\0", b"\1\1\x1e\2", b"\x1e\3\7\1", b"\5\2\1\1",
+               b"\5\x0b" + b"\0" * 10, b"\5\x22" + b"\0" * 34,
+               b"\x08\x09" + b"\0" * 8 + b"\0\0", b"\x1e\2\1\1", b"\3\3\4\3\4\1\0\0",
+               b"\5\x0a" + b"\2" * 8 + b"\5\x0a" + b"\3" * 8]
 
 BAD_OPTIONS = [b"\2\5\5\xb4", b"\2\0\0\0", b"\3\1\0\0", b"\1\1\1\2", b"\1\1\1\xfe", b"\x08\x0a\0\0", b"\1\1\5\3"]
 
@@ -42,7 +44,8 @@ def udp_message(world, src, dst):
 
 
 def zero_udp(src, dst, check):
-    """A message whose right checksum is a zero, with this checksum: one of the two zeros, or a wrong one."""
+    """A message whose right checksum is a zero, with this checksum: one of the two zeros, or a
+    wrong one."""
     message = udp(src, dst, 40000, 53, b"\0\0hi", check=0)
     right = sum_for(message, pseudo_sum(src, dst, UDP, len(message)))
     return message[:6] + two(check) + two(right) + message[10:]
@@ -67,7 +70,8 @@ def icmp_quote(world):
     version = 4 if chance(world, 93) else rng.choice([0, 5, 6])
     header = None if chance(world, 93) else rng.choice([0, 4, 5, 6, 15])
     ports = two(sport) + two(dport) + b"\0\0\0\0"
-    quote = ipv4(src, dst, rng.choice([TCP, TCP, TCP, UDP, ICMP]), ports, options=options, version=version, header=header)
+    quote = ipv4(src, dst, rng.choice([TCP, TCP, TCP, UDP, ICMP]), ports, options=options, version=version,
+                 header=header)
     return quote if chance(world, 80) else quote[:rng.choice([len(quote) - 1, 20, 1, 0])]
 
 
@@ -109,7 +113,8 @@ def lone_segment(world, src, dst):
         fields["reserved"] = rng.randrange(16)
     if chance(world, 20):
         fields["check"] = rng.choice([0, 65535, rng.randrange(65536)])
-    made = tcp(src, dst, 41000 + rng.randrange(3), 80, rng.randrange(2**32), rng.randrange(2**32), flags, message, **fields)
+    made = tcp(src, dst, 41000 + rng.randrange(3), 80, rng.randrange(2**32), rng.randrange(2**32), flags, message,
+               **fields)
     return made[:rng.choice([0, 8, 13, 19, 20])] if chance(world, 6) else made
 
 

@@ -2,24 +2,28 @@
 
 from makers.sections import add, add_interface, add_section, noise, octets_of
 from makers.world import chance
-from norm_model.blocks import enhanced_block, interface_block, option, other_block, section_block, simple_block
-from norm_model.capture import LONGEST
-from norm_model.pcapng import MOST_INTERFACES, NAME, UNIT, UNITS
+from model.blocks import enhanced_block, interface_block, option, other_block, section_block, simple_block
+from model.capture import LONGEST
+from model.pcapng import MOST_INTERFACES, NAME, UNIT, UNITS
 
 # The octets that a body has at least, by its maker.
 LEAST = {section_block: 16, interface_block: 8, enhanced_block: 20, simple_block: 4, other_block: 0}
 
 # Fields that are off, whatever the byte order.
 WRONG = {section_block: [{"magic": bytes(4)}, {"major": 2}, {"keep": 12}, {"first": 13}, {"last": 0}],
-         interface_block: [{"link": 113}, {"options": b"\xff\xff\xff\xff"}, {"keep": 4}, {"first": 2**32 - 4}, {"last": 0}],
-         enhanced_block: [{"which": 65}, {"captured": LONGEST + 1}, {"captured": LONGEST}, {"time": 2**64 - 1}, {"keep": 16}, {"first": 11}, {"last": 0}],
-         simple_block: [{"original": LONGEST + 1}, {"keep": 0}, {"keep": 4}, {"first": 2**32 - 1}, {"last": 0}, {"kind": 2}]}
+         interface_block: [{"link": 113}, {"options": b"\xff\xff\xff\xff"}, {"keep": 4}, {"first": 2**32 - 4},
+                           {"last": 0}],
+         enhanced_block: [{"which": 65}, {"captured": LONGEST + 1}, {"captured": LONGEST}, {"time": 2**64 - 1},
+                          {"keep": 16}, {"first": 11}, {"last": 0}],
+         simple_block: [{"original": LONGEST + 1}, {"keep": 0}, {"keep": 4}, {"first": 2**32 - 1}, {"last": 0},
+                        {"kind": 2}]}
 
 KINDS = [0, 1, 2, 2, 2, 3, 4, 5, 6, 7, 10, 0x0a0d0d0a, 0x01000000, 0x02000000, 0x03000000, 0x06000000, 0x80000006]
 
 
 def any_block(world, *makers):
-    """The fields of a block of one of these makers, mostly of the first few; a new block where there is none."""
+    """The fields of a block of one of these makers, mostly of the first few; a new block where
+    there is none."""
     plan = world.file.plan
     fitting = [fields for make, fields in plan if make in makers]
     if not fitting:
@@ -35,7 +39,8 @@ def off_length(world):
     make, fields = plan[at]
     right = len(make(**fields))
     swapped = int.from_bytes(right.to_bytes(4, "little"), "big")
-    values = [right + step for step in (-12, -4, -2, -1, 1, 2, 4, 12)] + [0, 4, 8, 11, 12, 13, 16, 2**31, 2**32 - 4, 2**32 - 1, swapped]
+    values = ([right + step for step in (-12, -4, -2, -1, 1, 2, 4, 12)]
+              + [0, 4, 8, 11, 12, 13, 16, 2**31, 2**32 - 4, 2**32 - 1, swapped])
     value = rng.choice(values)
     for name in rng.choice([["first"], ["last"], ["first", "last"]]):
         fields[name] = max(0, value)
@@ -52,21 +57,25 @@ def off_least(world):
     make = world.rng.choice(list(LEAST))
     fields = any_block(world, make)
     least = LEAST[make]
-    fields["keep"] = world.rng.choice([0, max(0, least - 4), max(0, least - 4), least, least, least + 4, max(0, least - 1)])
+    fields["keep"] = world.rng.choice([0, max(0, least - 4), max(0, least - 4), least, least, least + 4,
+                                       max(0, least - 1)])
 
 
 def off_options(world):
-    """Options that end at the area's end, or past it; units that are none."""
+    """Options that end at the area's end, or past it; invalid units."""
     fields, rng = any_block(world, interface_block), world.rng
     order = fields["order"]
     area = rng.choice([b"", b"", option(order, NAME, b"in"), option(order, 11, noise(world, 6))])
     value = noise(world, 7)
-    reaching = option(order, rng.choice([NAME, 3, UNIT, 11]), value, length=len(value) + rng.choice([0, 1, 2, 3, 4, 8, 65535 - len(value)]))
-    units = [bytes([n]) for n in (0, 3, 5, 6, 7, 8, 9, 10, 12, 0x86, 0x89)] + [b"", b"\6\6", b"\6\0", b"\x09\0\0\0", b"\0\0\0\x06"]
+    reaching = option(order, rng.choice([NAME, 3, UNIT, 11]), value,
+                      length=len(value) + rng.choice([0, 1, 2, 3, 4, 8, 65535 - len(value)]))
+    units = ([bytes([n]) for n in (0, 3, 5, 6, 7, 8, 9, 10, 12, 0x86, 0x89)]
+             + [b"", b"\6\6", b"\6\0", b"\x09\0\0\0", b"\0\0\0\x06"])
     unit = option(order, UNIT, rng.choice(units))
     end = option(order, 0, b"", length=rng.choice([0, 0, 3, 4, 65535]))
     right = option(order, UNIT, rng.choice(list(UNITS)))
-    fields["options"] = area + rng.choice([reaching, reaching, unit, unit, unit + right, right + unit, end, end + reaching, end + unit,
+    fields["options"] = area + rng.choice([reaching, reaching, unit, unit, unit + right, right + unit, end,
+                                           end + reaching, end + unit,
                                            right + reaching, reaching + end])
 
 
@@ -104,17 +113,21 @@ def off_captured(world):
         return
     length = LONGEST + rng.choice([0, 1])
     standing = bytes(length if chance(world, 60) else rng.choice([0, length - 4, length - 1]))
-    one_packet(world, octets=standing, captured=rng.choice([length, length, length, 2**32 - 1, 2**32 - 3, 2**32 - 4]), original=rng.choice([length, None]))
+    one_packet(world, octets=standing, captured=rng.choice([length, length, length, 2**32 - 1, 2**32 - 3, 2**32 - 4]),
+               original=rng.choice([length, None]))
 
 
 def off_snapped(world):
-    """A simple packet under a bound on what is captured, without one, and at the largest captured length."""
+    """A simple packet under a bound on what is captured, without one, and at the largest captured
+    length."""
     rng = world.rng
     if chance(world, 60):
         add_section(world, 0)
-        add(world, interface_block, link=world.link, snapped=rng.choice([0, 0, 1, 7, 8, 9, LONGEST, LONGEST + 1, 2**32 - 1]))
+        add(world, interface_block, link=world.link,
+            snapped=rng.choice([0, 0, 1, 7, 8, 9, LONGEST, LONGEST + 1, 2**32 - 1]))
     octets = noise(world, 20)
-    original = rng.choice([len(octets), len(octets) + 1, len(octets) + 4, LONGEST, LONGEST + 1, LONGEST + 1, 2**32 - 1, 0])
+    original = rng.choice([len(octets), len(octets) + 1, len(octets) + 4, LONGEST, LONGEST + 1, LONGEST + 1, 2**32 - 1,
+                           0])
     if original in (LONGEST, LONGEST + 1) and chance(world, 60):
         octets = bytes(original - rng.choice([0, 0, 4]))
     add(world, simple_block, octets=octets, original=original)
@@ -137,9 +150,10 @@ def off_time(world):
 
 
 def off_section(world):
-    """A byte order that is none, or a version that is another one."""
+    """An invalid byte order, or another version."""
     fields, rng = any_block(world, section_block), world.rng
-    magics = [bytes(4), b"\x1a\x2b\x3c\x4d", b"\x4d\x3c\x2b\x1a", b"\x3c\x4d\x1a\x2b", b"\x4d\x3c\x2b\x1b", b"\x1a\x2b\x4d\x3c", b"\xd4\xc3\xb2\xa1"]
+    magics = [bytes(4), b"\x1a\x2b\x3c\x4d", b"\x4d\x3c\x2b\x1a", b"\x3c\x4d\x1a\x2b", b"\x4d\x3c\x2b\x1b",
+              b"\x1a\x2b\x4d\x3c", b"\xd4\xc3\xb2\xa1"]
     if chance(world, 60):
         fields["magic"] = rng.choice(magics)
     else:
@@ -158,7 +172,9 @@ def off_kind(world):
         return
     at = rng.randrange(len(plan) + 1)
     order = plan[max(0, at - 1)][1]["order"]
-    plan.insert(at, (other_block, {"order": order, "kind": rng.choice(KINDS), "body": rng.choice([b"", noise(world, 10) * 4])}))
+    plan.insert(at,
+                (other_block,
+                 {"order": order, "kind": rng.choice(KINDS), "body": rng.choice([b"", noise(world, 10) * 4])}))
 
 
 def off_order(world):
@@ -176,7 +192,8 @@ def off_twice(world):
 
 
 def off_place(world):
-    """A block is left out, doubled or moved: a section without interfaces, packets before them, a first block that is no section."""
+    """A block is left out, doubled or moved: a section without interfaces, packets before them, a
+    first block that is no section."""
     plan, rng = world.file.plan, world.rng
     at = rng.choice([0, 0, 1, rng.randrange(len(plan))]) % len(plan)
     one = plan[at]
@@ -196,7 +213,8 @@ def off_interfaces(world):
         add(world, make, **world.rng.choice([{}] + WRONG.get(make, [])))
 
 
-OFF = [off_length, off_length, off_multiple, off_least, off_options, off_options, off_count, off_interface, off_captured, off_snapped, off_time,
+OFF = [off_length, off_length, off_multiple, off_least, off_options, off_options, off_count, off_interface,
+       off_captured, off_snapped, off_time,
        off_section, off_link, off_kind, off_order, off_twice, off_twice, off_place, off_interfaces]
 
 
@@ -209,12 +227,16 @@ def starts_of(plan):
 
 
 def cut(world, octets):
-    """Cut anywhere, mostly in or behind the head of a block or before its end; or with some octets more."""
+    """Cut anywhere, mostly in or after the head of a block or before its end; or with some octets
+    more."""
     rng = world.rng
     if chance(world, 20):
-        return octets + rng.choice([bytes(rng.randrange(1, 30)), noise(world, 14), b"\x0a\x0d\x0d\x0a" * rng.randrange(1, 4)])
+        return (octets
+                + rng.choice([bytes(rng.randrange(1, 30)), noise(world, 14),
+                              b"\x0a\x0d\x0d\x0a" * rng.randrange(1, 4)]))
     places = starts_of(world.file.plan)
-    place = rng.choice([rng.choice(places) + rng.randrange(-13, 14), rng.randrange(min(60, len(octets)) + 1), rng.randrange(len(octets) + 1)])
+    place = rng.choice([rng.choice(places) + rng.randrange(-13, 14), rng.randrange(min(60, len(octets)) + 1),
+                        rng.randrange(len(octets) + 1)])
     return octets[:max(0, place)]
 
 
@@ -225,7 +247,8 @@ def changed(world, octets):
     for _ in range(rng.choice([1, 1, 1, 2, 3])):
         at = rng.choice([rng.choice(places) + rng.randrange(36), rng.randrange(len(octets))])
         if at < len(octets):
-            octets[at] = rng.choice([0, 1, 2, 3, 4, 6, 9, 12, 101, 255, octets[at] ^ 1 << rng.randrange(8), rng.randrange(256)])
+            octets[at] = rng.choice([0, 1, 2, 3, 4, 6, 9, 12, 101, 255, octets[at] ^ 1 << rng.randrange(8),
+                                     rng.randrange(256)])
     return bytes(octets)
 
 

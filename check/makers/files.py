@@ -1,4 +1,5 @@
-"""Whole captures with their words: heads of all forms, settings near their ends, and files with a fault."""
+"""Whole captures with their words: heads of all forms, settings near their ends, and files with a
+fault."""
 
 import random
 
@@ -9,10 +10,10 @@ from makers.fragments import fragmented_messages, many_blocks
 from makers.headers import frame_of, odd_frame, original_length, packet_of
 from makers.sections import add_section, octets_of, open_file
 from makers.world import add_record, chance, dropped_later, open_world, pass_time
-from norm_model.built import MARKS, OPTIONS, RANGES, WHOLE
-from norm_model.capture import ETHERNET, RAW
-from norm_model.packets import head, record
-from norm_model.words import read_words
+from model.built import MARKS, OPTIONS, RANGES, WHOLE
+from model.capture import ETHERNET, RAW
+from model.packets import head, record
+from model.words import read_words
 
 VALUES = {
     "hops": [0, 1, 5, 30, 63, 64, 254],
@@ -30,11 +31,13 @@ VALUES = {
 
 BAD_NAMES = ["", "-", "-in", "--", "--hops=3", "n" * 65, "é" * 32 + "n", "é" * 33]
 
-PREFIXES = ["10.0.0.0/8", "10.0.0.0/8", "10.0.0.0/8", "10.255.0.1/8", "010.0.0.0/08", "10.0.0.0/9", "10.0.0.1/32", "8.0.0.0/5"]
+PREFIXES = ["10.0.0.0/8", "10.0.0.0/8", "10.0.0.0/8", "10.255.0.1/8", "010.0.0.0/08", "10.0.0.0/9", "10.0.0.1/32",
+            "8.0.0.0/5"]
 
 MORE_PREFIXES = ["192.168.0.0/16", "203.0.113.7/32", "198.51.100.8/32", "128.0.0.0/1", "0.0.0.0/0", "11.0.0.0/24"]
 
-BAD_PREFIXES = ["0010.0.0.0/8", "10.0.0/8", "10.0.0.0", "10.0.0.0/", "10.0.0.0/33", "256.0.0.0/8", "10.0.0.0/008", "1000.0.0.0/8",
+BAD_PREFIXES = ["0010.0.0.0/8", "10.0.0/8", "10.0.0.0", "10.0.0.0/", "10.0.0.0/33", "256.0.0.0/8", "10.0.0.0/008",
+                "1000.0.0.0/8",
                 "10.0.0.0.0/8", "10..0.0/8", "10.0.0.0/8 ", "a.0.0.0/8", "10.0.0.0/+8", "/8", "10.0.0.0/8/8"]
 
 
@@ -46,7 +49,8 @@ def option_words(rng, name, value):
 
 
 def good_words(rng, built, inside=0.01, both=0.2):
-    """`inside` and `both` say how often these options stand; the second has none of those beside it that would be refused."""
+    """`inside` and `both` say how often these options stand; the second has none of those beside it
+    that would be refused."""
     words = []
     often = {"offload": 0.25, "inside": inside, "both": both}
     names = [name for name in built.options if rng.random() < often.get(name, 0.3)]
@@ -64,23 +68,28 @@ def good_words(rng, built, inside=0.01, both=0.2):
 
 
 def both_words(rng):
-    """Both sides protected: once, twice, with a value, and beside the options with which it does not stand."""
+    """Both sides protected: once, twice, with a value, and beside the options with which it does
+    not stand."""
     beside = rng.choice([["--inside=in"], ["--inside", "in"], ["--mtu=600"], ["--mtu", "600"], ["--offload"], ["--hops=3"]])
     return [["--both"], ["--both"] + beside, beside + ["--both"],
-            rng.choice([["--both"] * 2, ["--both="], ["--both=1"], ["--both=both"], ["--both", "1"], ["--bot"], ["-both"], ["--Both"], ["--mirror"]])]
+            rng.choice([["--both"] * 2, ["--both="], ["--both=1"], ["--both=both"], ["--both", "1"], ["--bot"],
+                        ["-both"], ["--Both"], ["--mirror"]])]
 
 
 def spoilt_words(rng, words):
-    """Words that are refused, or that look as if they were."""
+    """Invalid arguments, or ones that look invalid."""
     at = rng.randrange(len(words) + 1)
     name = rng.choice(OPTIONS)
     low, high = RANGES.get(name, (0, 0))
     named = rng.choice(BAD_NAMES + VALUES["inside"])
     more = rng.choice([["--inside=" + named], ["--inside", named], ["--inside=in", "--inside", named],
                        ["--%s=%d" % (name, high + 1)], ["--%s=%d" % (name, high)], ["--%s" % name], ["--%s=" % name],
-                       ["--%s=%d" % (name, low - 1)], ["--%s" % name, str(low)], ["--offload=1"], ["--hops=" + "0" * 20],
-                       ["--hops=" + "0" * 21], ["--help"], ["-h"], ["--"], ["-"], [""], ["--hop=3"], ["--unknown"], ["x"],
-                       ["--hops=1", "--hops", "1"], ["--hops=٣"], ["--hops=+3"], ["--hops= 3"], ["--hops=0x3"], ["--version"]]
+                       ["--%s=%d" % (name, low - 1)], ["--%s" % name, str(low)], ["--offload=1"],
+                       ["--hops=" + "0" * 20],
+                       ["--hops=" + "0" * 21], ["--help"], ["-h"], ["--"], ["-"], [""], ["--hop=3"], ["--unknown"],
+                       ["x"],
+                       ["--hops=1", "--hops", "1"], ["--hops=٣"], ["--hops=+3"], ["--hops= 3"], ["--hops=0x3"],
+                       ["--version"]]
                       + both_words(rng))
     choice = rng.randrange(8)
     if choice < 3:
@@ -93,11 +102,13 @@ def spoilt_words(rng, words):
         return words[:-1] + [rng.choice(BAD_PREFIXES)]
     if choice < 7:
         return [word if word != "OUT" else "IN" for word in words]
-    return rng.choice([words[:-1], words[1:], [], ["run"], ["load", "1", "1"][:rng.randrange(1, 4)], ["walk"] + words[1:]])
+    return rng.choice([words[:-1], words[1:], [], ["run"], ["load", "1", "1"][:rng.randrange(1, 4)],
+                       ["walk"] + words[1:]])
 
 
 def sources(world):
-    """The makers of packets of this capture; with both sides protected some of them work from the inside, and some either way."""
+    """The makers of packets of this capture; with both sides protected some of them work from the
+    inside, and some either way."""
     if world.behind is None:
         return sources_of_side(world)
     chosen = sources_of_side(world.behind) + [either_way(world) for _ in range(world.rng.choice([0, 1, 1, 2]))]

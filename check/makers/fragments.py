@@ -1,9 +1,10 @@
-"""Cuts packets into fragments: in and out of order, overlapping alike and differing, with gaps and wrong ends."""
+"""Cuts packets into fragments: in and out of order, overlapping alike and differing, with gaps and
+wrong ends."""
 
 from makers.datagrams import any_message, octets
 from makers.headers import packet_of
 from makers.world import chance
-from norm_model.formats import read_ipv4
+from model.formats import read_ipv4
 
 
 def cut_places(world, length):
@@ -47,7 +48,8 @@ def wrong_end(world, message, piece):
 def misshapen(world, piece):
     start, body, more = piece
     return world.rng.choice([(start, b"", more), (start, body + b"x", True), (start, body[:-1], True),
-                             (65504, b"12345678", True), (65504, b"123456789ab", False), (65504, b"123456789abc", False),
+                             (65504, b"12345678", True), (65504, b"123456789ab", False),
+                             (65504, b"123456789abc", False),
                              (65512, b"123", False), (65512, b"1234", False), (65528, b"1", False)])
 
 
@@ -122,4 +124,5 @@ def many_blocks(world):
                 body, more = octets(world, world.rng.choice([7, 8, 9])), False
             else:
                 body, more = octets(world, 16), True
-            yield packet_of(world, src, dst, protocol, body, ident=ident + world.rng.choice([4, 4, 9]), mf=more, offset=offset)
+            yield packet_of(world, src, dst, protocol, body, ident=ident + world.rng.choice([4, 4, 9]), mf=more,
+                            offset=offset)

@@ -1,9 +1,9 @@
 """IPv4 packets and frames at the edge of each rule on the link and on the header."""
 
 from makers.world import chance, inside_address, near, outside_address, within
-from norm_model.capture import ETHERNET
-from norm_model.formats import two
-from norm_model.packets import address, ipv4
+from model.capture import ETHERNET
+from model.formats import two
+from model.packets import address, ipv4
 
 GOOD_OPTIONS = [b"\1\1\1\1", b"\x94\4\0\0", b"\x44\x0c\5\0" + b"\0" * 8, b"\0\0\0\0", b"\0\x83\3\4", b"\x88\4\0\1",
                 b"\1\1\1\0", b"\x94\4\0\0" * 10, b"\x07\x07\4\0\0\0\0\0"]
@@ -68,7 +68,8 @@ def unusual_addresses(world, src, dst):
 
 
 def both_zeros(packet):
-    """The same header with the other of the two zeros as its checksum, where the checksum is a zero."""
+    """The same header with the other of the two zeros as its checksum, where the checksum is a
+    zero."""
     if packet[10:12] not in (b"\0\0", b"\xff\xff"):
         return packet
     return packet[:10] + (b"\xff\xff" if packet[10:12] == b"\0\0" else b"\0\0") + packet[12:]

@@ -4,13 +4,9 @@ Messages of UDP have most of the octets, since the model is slow on those of TCP
 have addresses of 16 prefixes.
 """
 
-import os
 import random
-import sys
 
-sys.path.append(os.path.join(os.path.dirname(os.path.abspath(__file__)), "..", "..", "bench"))
-
-import captures  # noqa: E402
+from lib.bench import captures
 
 PREFIXES = ["10.%d.0.0/16" % (16 * number) for number in range(16)]
 
@@ -28,7 +24,8 @@ class Peer(captures.Connection):
         self.inside = 0x0A000001 + ((16 * (number % 16)) << 16)
 
     def turn(self, chance):
-        """Makes a segment, at times sent again with an octet that differs, and its acknowledgment."""
+        """Makes a segment, at times sent again with an octet that differs, and its
+        acknowledgment."""
         yield self.data(self.end, SEGMENT)
         if chance.random() < 0.1:
             yield self.data(self.end, SEGMENT, changed=True)
@@ -46,7 +43,8 @@ def message(chance, number):
 
 
 def make_large(path, seed, records):
-    """Writes a capture with at least so many records. A connection begins every 20 records."""
+    """Writes a capture with at least this number of records. A connection begins every 20
+    records."""
     chance, out, peers = random.Random("large %s" % seed), captures.Capture(path), []
     while out.records < records:
         if len(peers) < CONNECTIONS and out.records >= 20 * len(peers):

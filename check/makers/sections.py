@@ -1,16 +1,17 @@
-"""Right pcapng files: the packets of a world in sections with their interfaces, and other blocks between them.
+"""Right pcapng files: the packets of a world in sections with their interfaces, and other blocks
+between them.
 
-A file is a plan: a list of pairs of a maker of `norm_model.blocks` and its fields.
+A file is a plan: a list of pairs of a maker of `model.blocks` and its fields.
 """
 
 from types import SimpleNamespace
 
 from makers.world import chance
-from norm_model.blocks import enhanced_block, interface_block, option, other_block, section_block, simple_block
-from norm_model.capture import ETHERNET
-from norm_model.formats import read_ipv4
-from norm_model.pcapng import MOST_INTERFACES, NAME, UNIT, UNITS
-from norm_model.words import side_of
+from model.blocks import enhanced_block, interface_block, option, other_block, section_block, simple_block
+from model.capture import ETHERNET
+from model.formats import read_ipv4
+from model.pcapng import MOST_INTERFACES, NAME, UNIT, UNITS
+from model.words import side_of
 
 SNAPPED = [0, 0, 65535, 262144, 2**32 - 1, 1, 20, 40, 60, 100]
 
@@ -35,11 +36,14 @@ def noise(world, most):
 def names_near(world):
     """Names for interfaces: that of the inside one, and what only looks like it."""
     inside = world.settings.inside or b"in"
-    return [inside] * 8 + [None, None, b"", b"ex", inside + b"\0", inside[:-1], inside + b"x", inside * 300, inside.swapcase(), b" " + inside]
+    return ([inside] * 8
+            + [None, None, b"", b"ex", inside + b"\0", inside[:-1], inside + b"x", inside * 300, inside.swapcase(),
+               b" " + inside])
 
 
 def interface_options(world, name, unit):
-    """The name and the unit, others before, between and behind, and what is not looked at any more."""
+    """The name and the unit, others before, between and after them, and what is not read any
+    more."""
     rng, order = world.rng, world.file.order
     listed = [] if name is None else [(NAME, name)]
     listed += [(UNIT, unit)] if unit != b"\6" or chance(world, 40) else []
@@ -54,13 +58,16 @@ def interface_options(world, name, unit):
     if chance(world, 50):
         return octets
     end = option(order, 0, b"", length=rng.choice([0, 0, 0, 0, 1, 4, 65535]))
-    return octets + end + (rng.choice([option(order, UNIT, b"\0"), option(order, NAME, b"in"), b"\2\0\xff\xff"]) if chance(world, 15) else b"")
+    return (octets + end
+            + (rng.choice([option(order, UNIT, b"\0"), option(order, NAME, b"in"), b"\2\0\xff\xff"])
+               if chance(world, 15) else b""))
 
 
 def add_interface(world):
     rng, unit = world.rng, world.rng.choice(list(UNITS))
     name, snapped = rng.choice(names_near(world)), rng.choice(SNAPPED)
-    add(world, interface_block, link=world.link, reserved=rng.choice([0, 0, 1, 65535]), snapped=snapped, options=interface_options(world, name, unit))
+    add(world, interface_block, link=world.link, reserved=rng.choice([0, 0, 1, 65535]), snapped=snapped,
+        options=interface_options(world, name, unit))
     world.file.interfaces.append(SimpleNamespace(name=name, unit=unit, snapped=snapped))
 
 
@@ -68,7 +75,8 @@ def add_section(world, interfaces):
     rng, file = world.rng, world.file
     file.order, file.interfaces = rng.choice(["little", "big"]), []
     options = rng.choice([b"", b"", option(file.order, 4, b"check"), noise(world, 3) * 4])
-    add(world, section_block, minor=rng.choice([0, 0, 0, 1, 2, 65535]), size=rng.choice([2**64 - 1, 2**64 - 1, 0, 28, 2**63]), options=options)
+    add(world, section_block, minor=rng.choice([0, 0, 0, 1, 2, 65535]),
+        size=rng.choice([2**64 - 1, 2**64 - 1, 0, 28, 2**63]), options=options)
     for _ in range(interfaces):
         add_other(world)
         add_interface(world)
@@ -99,7 +107,8 @@ def pick_interface(world, frame):
 
 
 def record_in_a_block(world, frame, original):
-    """Writes a block with the frame, and before it what a file may have there; the record that is read of it."""
+    """Writes a block with the frame, and before it what a file may have there; the record that is
+    read of it."""
     file = world.file
     while not file.interfaces or chance(world, 3):
         add_section(world, world.rng.choice([0, 1, 2, 2, 3]))
@@ -125,13 +134,15 @@ def enhanced_record(world, frame, original):
     units = UNITS[file.interfaces[which].unit]
     fraction = world.rng.choice([0, 1, units - 1, world.rng.randrange(units)])
     file.time = (world.seconds, fraction * (10**9 // units))
-    add(world, enhanced_block, which=which, time=world.seconds * units + fraction, octets=frame, original=original, **packet_fields(world))
+    add(world, enhanced_block, which=which, time=world.seconds * units + fraction, octets=frame, original=original,
+        **packet_fields(world))
     return read_as(world, which, frame, original)
 
 
 def read_as(world, which, octets, original):
     seconds, fraction = world.file.time
-    return SimpleNamespace(seconds=seconds, fraction=fraction, octets=octets, offset=0, original=original, side=side_seen(world, which))
+    return SimpleNamespace(seconds=seconds, fraction=fraction, octets=octets, offset=0, original=original,
+                           side=side_seen(world, which))
 
 
 def octets_of(plan):

@@ -1,12 +1,12 @@
-"""Small captures for the laws of stream_laws.py: senders that keep to one stream or contradict it,
-eras that end quietly or not, recorded hosts.
+"""Small captures for the laws of check/receivers/stream_laws.py: senders that keep to one stream or
+contradict it, eras that end quietly or not, recorded hosts.
 """
 
 import random
 
-from norm_model import packets as p
-from norm_model.formats import ACK, FIN, PSH, RST, SYN, TCP, UDP
-from norm_model.packets import INSIDE, OUTSIDE, address, capture_of, tcp
+from model import packets as p
+from model.formats import ACK, FIN, PSH, RST, SYN, TCP, UDP
+from model.packets import INSIDE, OUTSIDE, address, capture_of, tcp
 
 OTHER = address("198.51.100.8")
 
@@ -25,7 +25,8 @@ class Sender:
 
     def add(self, inbound, offset, flags, payload=b"", acked=None):
         src, dst, ports = (OUTSIDE, INSIDE, (self.port, 80)) if inbound else (INSIDE, OUTSIDE, (80, self.port))
-        seq, ack = (self.base + offset, 5001) if inbound else (5001 - (flags & SYN != 0), self.base + (self.acked if acked is None else acked))
+        seq, ack = ((self.base + offset, 5001) if inbound
+                    else (5001 - (flags & SYN != 0), self.base + (self.acked if acked is None else acked)))
         message = tcp(src, dst, *ports, seq % 2**32, ack % 2**32 if flags & ACK else 0, flags, payload)
         for packet in self.fragments(src, dst, message):
             self.packets.append((packet, self.now))
@@ -43,7 +44,9 @@ class Sender:
         if rng.random() < 0.4:
             offset, octets, more = parts[0]
             at = rng.randrange(len(octets))
-            parts.insert(1, rng.choice([(offset, octets, more), (offset, octets[:at] + bytes([octets[at] ^ 1]) + octets[at + 1:], more)]))
+            parts.insert(1,
+                         rng.choice([(offset, octets, more),
+                                     (offset, octets[:at] + bytes([octets[at] ^ 1]) + octets[at + 1:], more)]))
         return [p.ipv4(src, dst, TCP, octets, ident=ident, offset=offset, mf=more) for offset, octets, more in parts]
 
     def open(self):
@@ -53,7 +56,8 @@ class Sender:
     def send(self):
         """A segment somewhere near what was sent last, which a sender that lies may change."""
         rng = self.rng
-        offset = rng.choice([self.top, self.top, max(0, self.acked - 5), rng.randint(max(0, self.acked - 20), self.top), self.top + 3])
+        offset = rng.choice([self.top, self.top, max(0, self.acked - 5),
+                             rng.randint(max(0, self.acked - 20), self.top), self.top + 3])
         octets = bytes((7 * (offset + i) + self.port) % 251 for i in range(rng.randint(1, self.longest)))
         if self.end is not None:
             octets = octets[:max(0, self.end - offset)]
@@ -122,12 +126,15 @@ def recorded_host(rng):
     one.open()
     for _ in range(rng.choice([3, 6])):
         octets = bytes(rng.randrange(256) for _ in range(rng.randint(1, 30)))
-        one.packets.append((p.inward(TCP, tcp(OUTSIDE, INSIDE, one.port, 80, (one.base + one.top) % 2**32, 5001, ACK, octets)), one.now))
+        one.packets.append((p.inward(TCP,
+                                     tcp(OUTSIDE, INSIDE, one.port, 80, (one.base + one.top) % 2**32, 5001, ACK,
+                                         octets)), one.now))
         one.top += len(octets)
         if rng.random() < 0.5:
             one.acknowledge(one.top)
     good, bad = (p.udp(OTHER, INSIDE, 40000, 53, b"hi", **fields) for fields in ({}, {"check": 1}))
-    extras = [[], [p.ipv4(OTHER, INSIDE, UDP, bad)], [p.ipv4(OUTSIDE, INSIDE, UDP, bad)], [p.ipv4(OTHER, INSIDE, UDP, good, ttl=1)], [b"\x45"]]
+    extras = [[], [p.ipv4(OTHER, INSIDE, UDP, bad)], [p.ipv4(OUTSIDE, INSIDE, UDP, bad)],
+              [p.ipv4(OTHER, INSIDE, UDP, good, ttl=1)], [b"\x45"]]
     for packet in rng.choice(extras):
         one.packets.insert(rng.randrange(len(one.packets)), (packet, 0))
     return one.packets
@@ -137,7 +144,8 @@ def make_stream(number, both=False):
     """The words and the octets of the capture with this number."""
     rng = random.Random("stream " + number)
     words = ["--idle", str(IDLE)] + rng.choice([[], [], ["--flows", "1"], ["--flows", "2"]])
-    words += ["--both"] if both else rng.choice([[], [], [], ["--both"], ["--mtu", "576"], ["--quota", "1"], ["--cells", "3"]])
+    words += (["--both"] if both
+              else rng.choice([[], [], [], ["--both"], ["--mtu", "576"], ["--quota", "1"], ["--cells", "3"]]))
     longest = 900 if "--mtu" in words else rng.choice([30, 30, 30, 300])
     packets = recorded_host(rng) if rng.random() < 0.2 else sender(rng, longest)
     return ["run"] + words + ["IN", "OUT", "10.0.0.0/8"], capture_of(packets)

@@ -1,26 +1,28 @@
-"""Makes the three files of a view and its words from a number: those of a run, without or with both sides protected, or of frames that no run
-wrote; many of them are changed in a place."""
+"""Makes the three files of a view and its words from a number. They are those of a run, without or
+with both sides protected, or of frames that no run wrote. Many of them are changed somewhere."""
 
 import random
 
 from makers.audits import changed_capture, changed_report
+from makers.evidence import evidence_run, evidence_words
 from makers.files import both_words, make_capture, make_pcapng
 from makers.noted import noted_run
-from norm_model.built import WHOLE
-from norm_model.capture import ETHERNET, RAW, read_head, read_records
-from norm_model.formats import ICMP, TCP, UDP, four, two
-from norm_model.packets import INSIDE, OUTSIDE, capture_of, head, icmp, ipv4, record, segment, tcp, udp
-from norm_model.report import REASONS, first_line
-from norm_model.rule_names import RULES
-from norm_model.run import run
-from norm_model.view_lists import SIDES, VERDICTS
+from model.built import WHOLE
+from model.capture import ETHERNET, RAW, read_head, read_records
+from model.formats import ICMP, TCP, UDP, four, two
+from model.packets import INSIDE, OUTSIDE, capture_of, head, icmp, ipv4, record, segment, tcp, udp
+from model.report import REASONS, first_line
+from model.rule_names import RULES
+from model.run import run
+from model.view_lists import SIDES, VERDICTS
 
 EDGES = [0, 1, 2, 255, 256, 65535, 65536, 2**31, 2**32 - 1]
 
 
 # Words
 
-HOSTS = ["10.0.0.1", "198.51.100.7", "10.0.0.0/8", "10.0.0.1/31", "198.51.100.0/24", "198.51.100.6/31", "0.0.0.0/0", "128.0.0.0/1", "0.0.0.0",
+HOSTS = ["10.0.0.1", "198.51.100.7", "10.0.0.0/8", "10.0.0.1/31", "198.51.100.0/24", "198.51.100.6/31", "0.0.0.0/0",
+         "128.0.0.0/1", "0.0.0.0",
          "255.255.255.255/32",
          "010.000.0.01/08", "10.0.0.2", "192.168.0.0/16"]
 
@@ -38,7 +40,8 @@ def option_words(rng, name, value):
 
 def choice_words(rng):
     """Some of the options, each in one of its forms; a few of them do not go together."""
-    words, choices = [], {"rule": list_of(rng, RULES), "era": rng.choice(ERAS), "only": list_of(rng, VERDICTS), "side": list_of(rng, SIDES),
+    words, choices = [], {"rule": list_of(rng, RULES), "era": rng.choice(ERAS), "only": list_of(rng, VERDICTS),
+                          "side": list_of(rng, SIDES),
                           "host": rng.choice(HOSTS)}
     table = rng.choice(["records", "records", "eras"]) if rng.random() < 0.25 else None
     if rng.random() < (0.4 if table is None else 0.03):
@@ -48,6 +51,9 @@ def choice_words(rng):
     for name, value in choices.items():
         if rng.random() < (0.02 if table == "eras" else 0.18):
             words.append(option_words(rng, name, value))
+    for mark, often in (("--evidence", 0.03 if table == "eras" else 0.3), ("--summary", 0.02 if table else 0.12)):
+        if rng.random() < often:
+            words.append([mark])
     rng.shuffle(words)
     return [word for group in words for word in group]
 
@@ -56,12 +62,15 @@ def choice_words(rng):
 ERA_EDGES = ["0", "1", "4294967295", "4294967296", "18446744073709551616", "0" * 19 + "1", "0" * 20 + "1", ""]
 
 # Addresses and prefixes at the edge of what is read.
-HOST_EDGES = ["10.0.0.1/32", "10.0.0.1/33", "10.0.0.1/0", "10.0.0.1/00", "10.0.0.1/000", "10.0.0.1/", "10.0.0.255", "10.0.0.256", "10.0.0.001",
+HOST_EDGES = ["10.0.0.1/32", "10.0.0.1/33", "10.0.0.1/0", "10.0.0.1/00", "10.0.0.1/000", "10.0.0.1/", "10.0.0.255",
+              "10.0.0.256", "10.0.0.001",
               "10.0.0.0001", "10.0.0",
-              "10.0.0.1.1", ".0.0.1", "10.0.0.", "10.0.0.1 ", "10.0.0.1,10.0.0.2", "", "/8", "10.0.0.1/8/8", "10.0.0.1/-1", "a.0.0.1"]
+              "10.0.0.1.1", ".0.0.1", "10.0.0.", "10.0.0.1 ", "10.0.0.1,10.0.0.2", "", "/8", "10.0.0.1/8/8",
+              "10.0.0.1/-1", "a.0.0.1"]
 
 # Lists at the edge of what is read, of the words pass, fix, hold and drop.
-LIST_EDGES = ["pass,fix,hold,drop", "drop,hold,fix,pass", "pass,pass", "pass,fix,pass", "pass,", ",pass", "pass,,fix", ",", "", "pass fix",
+LIST_EDGES = ["pass,fix,hold,drop", "drop,hold,fix,pass", "pass,pass", "pass,fix,pass", "pass,", ",pass", "pass,,fix",
+              ",", "", "pass fix",
               "pass;fix", "pas", "Pass", "pass,passed"]
 
 SIDE_EDGES = ["in,out,-", "-", "-,-", "in,in", "--", "-,", "neither", "In", "in,-,out"]
@@ -69,10 +78,12 @@ SIDE_EDGES = ["in,out,-", "-", "-,-", "in,in", "--", "-,", "neither", "In", "in,
 
 def edge_words(rng):
     """One option with a value at the edge of what it takes, also with a format."""
-    edges = {"era": [by + number for by in ("", "second:") for number in ERA_EDGES], "host": HOST_EDGES, "only": LIST_EDGES, "side": SIDE_EDGES,
+    edges = {"era": [by + number for by in ("", "second:") for number in ERA_EDGES], "host": HOST_EDGES,
+             "only": LIST_EDGES, "side": SIDE_EDGES,
              "rule": [",".join(RULES), ",".join(RULES + RULES[-1:]), "T_OLD,T_CLASH", "T_OLD,T_OLD"]}
     name = rng.choice(list(edges))
-    return rng.choice([[], [], ["--json"], ["--table=records"], ["--table", "eras"]]) + option_words(rng, name, rng.choice(edges[name]))
+    return (rng.choice([[], [], ["--json"], ["--table=records"], ["--table", "eras"]])
+            + option_words(rng, name, rng.choice(edges[name])))
 
 
 BAD_OPTIONS = [words.split(" ") for words in [
@@ -86,12 +97,16 @@ BAD_OPTIONS = [words.split(" ") for words in [
     "--table", "--table=", "--table=record", "--table=Eras", "--table --json", "--table=eras --table=eras", "--table=records --json",
     "--json --table eras", "--table=eras --only=drop", "--era=1 --table=eras", "--table=eras --host=10.0.0.1", "--table=eras --side=in",
     "--rule=T_OLD --table=eras", "--notes --notes", "--notes=", "--notes=1", "--notes --table=records", "--table eras --notes", "--notes --only=drop",
-    "--era=1 --notes", "--notes --json --side=in", "--note", "--", "-", "-j", "--rul=T_CLASH", "--rules=T_CLASH", "--hops=30", "--help", "-h", "--version", "",
+    "--era=1 --notes", "--notes --json --side=in",
+    "--evidence --evidence", "--evidence=", "--evidence=1", "--evidence --notes", "--notes --evidence", "--evidence --table=eras", "--evidenc",
+    "--evidences", "--summary --summary", "--summary=", "--summary=1", "--summary --notes", "--notes --json --summary", "--table=records --summary",
+    "--summary --table=eras", "--summar", "--summary --evidence --table records",
+    "--note", "--", "-", "-j", "--rul=T_CLASH", "--rules=T_CLASH", "--hops=30", "--help", "-h", "--version", "",
 ]] + [["--rule", "T_CLASH, T_OLD"], ["--era=second: 1"], ["--side", ""]]
 
 
 def spoilt_words(rng, words):
-    """Words that are refused."""
+    """Invalid arguments."""
     kind = rng.randrange(6)
     if kind < 3:
         return rng.choice(BAD_OPTIONS) + words
@@ -125,7 +140,8 @@ def any_message(rng):
         options = rng.choice([b"", b"", b"\1\1\1\1", b"\2\4\5\xb4", b"\1" * 40])
         flags = rng.choice([2, 16, 18, 24, 17, 4, 0, 255, rng.randrange(256)])
         message = tcp(OUTSIDE, INSIDE, rng.choice([40000, 0, 65535]), 80, rng.choice([1000, 1000, 1001, 0, 2**32 - 1]),
-                      rng.choice(EDGES), flags, octets, options=options, reserved=rng.choice([0, 0, 1, 15]), urgent=rng.choice([0, 0,
+                      rng.choice(EDGES), flags, octets, options=options, reserved=rng.choice([0, 0, 1, 15]),
+                      urgent=rng.choice([0, 0,
                           9]), window=rng.choice([0, 1, 8192, 65535]),
                       header=rng.choice([None, None, None, None, 0, 4, 5, 6, 15]))
         protocol = TCP
@@ -142,8 +158,10 @@ def any_message(rng):
 def any_packet(rng):
     protocol, message = any_message(rng)
     options = rng.choice([b"", b"", b"", b"\1\1\1\1", b"\x94\4\0\0", b"\1" * 40])
-    fields = {"options": options, "ttl": rng.choice([0, 31, 64, 255]), "tos": rng.choice([0, 0, 255]), "ident": rng.choice([1, 2, 65535]),
-              "reserved": rng.random() < 0.1, "df": rng.random() < 0.2, "mf": rng.random() < 0.2, "offset": rng.choice([0, 0, 0, 8, 65528])}
+    fields = {"options": options, "ttl": rng.choice([0, 31, 64, 255]), "tos": rng.choice([0, 0, 255]),
+              "ident": rng.choice([1, 2, 65535]),
+              "reserved": rng.random() < 0.1, "df": rng.random() < 0.2, "mf": rng.random() < 0.2,
+              "offset": rng.choice([0, 0, 0, 8, 65528])}
     if rng.random() < 0.2:
         fields[rng.choice(["version", "header"])] = rng.choice([0, 4, 5, 6, 15])
     if rng.random() < 0.2:
@@ -156,7 +174,8 @@ def any_frame(rng, link):
     if rng.random() < 0.03:
         return bytes(rng.randrange(256) for _ in range(rng.randrange(30)))
     packet = any_packet(rng)
-    before = bytes(12) + rng.choice([b"\x08\0"] * 9 + [b"\x08\x06", b"\x86\xdd", b"\x81\0", b"\0\0", b"\xff\xff"]) if link == ETHERNET else b""
+    before = (bytes(12) + rng.choice([b"\x08\0"] * 9 + [b"\x08\x06", b"\x86\xdd", b"\x81\0", b"\0\0", b"\xff\xff"])
+              if link == ETHERNET else b"")
     return (before + packet)[:rng.choice([None] * 9 + [0, 13, 14, 33, 34, 54])]
 
 
@@ -170,7 +189,8 @@ def changed_octets(rng, frame):
             frame = frame + bytes(rng.randrange(4))
         elif frame:
             at = rng.randrange(len(frame))
-            frame = frame[:at] + bytes([rng.choice([frame[at] ^ 1 << rng.randrange(8), rng.randrange(256)])]) + frame[at + 1:]
+            frame = (frame[:at] + bytes([rng.choice([frame[at] ^ 1 << rng.randrange(8), rng.randrange(256)])])
+                     + frame[at + 1:])
     return frame
 
 
@@ -218,7 +238,8 @@ def free_rules(rng, made):
 
 def free_line(rng, number, packets, version, made):
     """An entry of any words, with this many frames."""
-    words = [str(number), rng.choice(["in", "in", "out", "-"]), rng.choice(VERDICTS), str(packets)] + free_rules(rng, made)
+    words = ([str(number), rng.choice(["in", "in", "out", "-"]), rng.choice(VERDICTS), str(packets)]
+             + free_rules(rng, made))
     words += ["@%d" % rng.choice([1, 2, 3, 0, 2**32 - 1])] if rng.random() < 0.6 else []
     words += ["+%d" % rng.choice([1, 2, 3])] if rng.random() < 0.3 else []
     for _ in range(rng.choice([0] * 6 + [1, 2, 4])):
@@ -227,32 +248,43 @@ def free_line(rng, number, packets, version, made):
     return " ".join(words)
 
 
+def is_passed(*lines):
+    return all(line.split(" ")[2] == "pass" for line in lines)
+
+
 def free_report(rng, count):
-    """The lines of a report of one engine or of two, and how many frames each record has in OUT."""
+    """The lines of a report of one engine or of two, and for each record which of its frames in OUT
+    are to be the record."""
     version, both = rng.choice([(1, False), (2, False), (2, False), (2, True), (2, True), (2, True)])
     made = rng.choice([0, 0, 0.1, 0.4])
     lines, frames, behind = [first_line(version, both)[:-1]], [], 0
     for number in range(1, count + 1):
         packets = rng.choice([0, 1, 1, 1, 2, 3] * 20 + [12])
-        lines.append(free_line(rng, number, packets, version, made))
-        frames.append(0 if both else packets)
+        first = free_line(rng, number, packets, version, made)
+        lines.append(first)
+        frames.append([] if both else [is_passed(first)] * packets)
         for behind in range(behind + 1, behind + 1 + packets) if both else []:
             more = rng.choice([0, 1, 1, 1, 1, 2, 3])
-            lines.append("/" + free_line(rng, behind, more, version, made))
-            frames[-1] += more
-    return lines + ["end %d %d" % (count, sum(frames))], frames
+            second = free_line(rng, behind, more, version, made)
+            lines.append("/" + second)
+            frames[-1] += [is_passed(first, second)] * more
+    return lines + ["end %d %d" % (count, sum(map(len, frames)))], frames
 
 
 def free_view(rng):
-    """Records, frames that are changed from them in any way, and a report that names as many of them."""
+    """Records, frames that are changed from them in any way, and a report that names as many of
+    them."""
     order, nano, link = rng.choice(["little", "big"]), rng.random() < 0.5, rng.choice([ETHERNET, RAW])
     source, written = head(order, nano, link), head(rng.choice([order, order, "big"]), rng.random() < 0.5, link)
     written_order = "little" if written[0] in (0xd4, 0x4d) else "big"
     lines, frames = free_report(rng, rng.choice([0, 1, 2, 5, 9]))
-    for packets in frames:
+    often = rng.choice([0.8, 1, 1, 1, 1, 1])
+    for passed in frames:
         octets, frame = free_pair(rng, link)
-        source += record(octets, rng.choice([0, 1, 1790000000, 2**32 - 1]), rng.choice([0, 1, 999999, 10**9, 2**32 - 1]), order=order)
-        parts = [rng.choice([frame, changed_octets(rng, octets)]) for _ in range(packets)]
+        source += record(octets, rng.choice([0, 1, 1790000000, 2**32 - 1]),
+                         rng.choice([0, 1, 999999, 10**9, 2**32 - 1]), order=order)
+        parts = [octets if is_same and rng.random() < often else rng.choice([frame, changed_octets(rng, octets)])
+                 for is_same in passed]
         written += b"".join(record(part, 0, 0, order=written_order) for part in parts)
     return [source, written, "".join(line + "\n" for line in lines).encode()]
 
@@ -301,7 +333,8 @@ def other_number(rng, line):
 
 
 def both_faults(rng, text):
-    """Changes of the lines of the second engine; in a report of one engine such a line, or the first line of one of two."""
+    """Changes of the lines of the second engine; in a report of one engine such a line, or the
+    first line of one of two."""
     lines = text.split("\n")
     behind = [at for at, line in enumerate(lines) if line.startswith("/")]
     if not behind:
@@ -332,7 +365,7 @@ def both_faults(rng, text):
 
 
 def record_less_or_more(rng, octets):
-    """The capture without its last record, or with one more behind it."""
+    """The capture without its last record, or with one more after it."""
     head_read = read_head(octets)
     if isinstance(head_read, str):
         return octets
@@ -343,7 +376,8 @@ def record_less_or_more(rng, octets):
 
 
 def changed_file(rng, octets, other):
-    """A capture that is cut, of another run, changed in a place, with a record more or less, or with another head."""
+    """A capture that is cut, of another run, changed in a place, with a record more or less, or
+    with another head."""
     kind = rng.randrange(10)
     if kind > 7:
         return record_less_or_more(rng, octets)
@@ -379,7 +413,7 @@ def with_faults(rng, files, other):
 
 
 def refused_files(rng):
-    """What a run leaves whose words are refused: both sides protected beside --mtu or --inside, or twice."""
+    """The files of a run with invalid arguments: --both with --mtu or --inside, or twice."""
     words = ["run"] + rng.choice(both_words(rng)[1:]) + ["IN", "OUT", "10.0.0.0/8"]
     octets = capture_of([segment("> S 999")])
     _, written, text = run(words, octets, WHOLE)
@@ -387,7 +421,8 @@ def refused_files(rng):
 
 
 def run_files(number, rng):
-    """The three files of a run of the model that reads its capture to the end, or of one that stops."""
+    """The three files of a run of the model that reads its capture to the end, or of one that
+    stops."""
     if rng.random() < 0.01:
         return refused_files(rng)
     make = make_pcapng if rng.random() < 0.2 else make_capture
@@ -401,28 +436,33 @@ def run_files(number, rng):
     return free_view(rng)
 
 
-def noted_files(rng):
-    """The three files of a run on bad input."""
-    options, octets = noted_run(rng)
+def files_of_run(options, octets):
+    """The three files of a run with these options."""
     _, written, text = run(["run"] + options + ["IN", "OUT", "10.0.0.0/8"], octets, WHOLE)
     return [octets, written, text.encode()]
 
 
 def note_words(rng):
     """Words of a view that has notes."""
-    return rng.choice([["--notes"], ["--notes"], ["--notes", "--json"], ["--json", "--notes"], ["--json"], [], []])
+    return rng.choice([["--notes"], ["--notes"], ["--notes", "--json"], ["--json", "--notes"], ["--json"], [], [],
+                       ["--summary"],
+                       ["--json", "--summary"]])
 
 
 def make_view(number):
-    """The words, in which IN, OUT and REPORT stand for the names, and the octets of the three files; one that is None is not there."""
+    """The words, in which IN, OUT and REPORT stand for the names, and the octets of the three
+    files; one that is None is not there."""
     rng = random.Random("view " + number)
     if rng.random() < 0.1:
         if rng.random() < 0.4:
             return edge_words(rng) + ["IN", "OUT", "REPORT"], free_view(rng)
         return spoilt_words(rng, choice_words(rng) + ["IN", "OUT", "REPORT"]), free_view(rng)
-    if rng.random() < 0.25:
-        return note_words(rng) + ["IN", "OUT", "REPORT"], noted_files(rng)
-    files = free_view(rng) if rng.random() < 0.4 else run_files(number, rng)
+    kind = rng.random()
+    if kind < 0.25:
+        return note_words(rng) + ["IN", "OUT", "REPORT"], files_of_run(*noted_run(rng))
+    if kind < 0.4:
+        return evidence_words(rng) + ["IN", "OUT", "REPORT"], files_of_run(*evidence_run(rng))
+    files = free_view(rng) if rng.random() < 0.45 else run_files(number, rng)
     if rng.random() < 0.45:
         files = with_faults(rng, files, free_view(rng))
     if rng.random() < 0.02:

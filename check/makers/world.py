@@ -1,14 +1,16 @@
-"""What a capture is made in: the random numbers, the settings, and the model that has seen the records so far.
+"""What a capture is made in: the random numbers, the settings, and the model that has seen the
+records so far.
 
-The model runs beside the maker, so that a maker can ask where an era stands and choose numbers at its edges. With both sides
-protected `behind` is a world too, that of the second engine: what goes inwards there goes outwards here.
+The model runs beside the maker, so that a maker can ask where an era stands and choose numbers at
+its edges. With both sides protected `behind` is a world too, that of the second engine: what goes
+inwards there goes outwards here.
 """
 
 from types import SimpleNamespace
 
-from norm_model.both_sides import open_engines, step_engines
-from norm_model.packets import address
-from norm_model.words import is_trusted
+from model.both_sides import open_engines, step_engines
+from model.packets import address
+from model.words import is_trusted
 
 INSIDES = [address(text) for text in ("10.0.0.1", "10.0.0.2", "10.255.255.255", "10.0.0.0")]
 OUTSIDES = [address(text) for text in ("198.51.100.7", "198.51.100.8", "11.0.0.0", "9.255.255.255")]
@@ -29,7 +31,8 @@ def open_side(rng, engine):
 
 
 def classic_record(world, frame, original):
-    return SimpleNamespace(seconds=world.seconds, fraction=world.rng.randrange(1000000), octets=frame, offset=0, side=None,
+    return SimpleNamespace(seconds=world.seconds, fraction=world.rng.randrange(1000000), octets=frame, offset=0,
+                           side=None,
                            original=original)
 
 
@@ -61,7 +64,8 @@ def within(number, low, high):
 
 
 def pass_time(world):
-    """Mostly little time passes; sometimes just as much as a limit allows, or one second more; sometimes less than none."""
+    """Mostly little time passes; sometimes just as much as a limit allows, or one second more;
+    sometimes less than none."""
     rng, settings = world.rng, world.settings
     if chance(world, 88):
         return
@@ -72,7 +76,8 @@ def pass_time(world):
 
 
 def dropped_later(world):
-    """A record that the first engine drops, at a time that the second one sees nothing of: there no era is idle."""
+    """A record that the first engine drops, at a time that the second one sees nothing of: there no
+    era is idle."""
     before, idle = world.seconds, world.settings.idle
     world.seconds = within(before + world.rng.choice([1, idle, idle + 1, 2 * idle]), 0, 2**32 - 1)
     add_record(world, b"")
@@ -85,7 +90,7 @@ def some_address(world, usual, trusted):
 
 
 def inside_address(world):
-    """A trusted one: behind the first engine it is one that stands outside."""
+    """A trusted one: for the second engine it is an outside one."""
     return some_address(world, OUTSIDES if world.settings.mirror else INSIDES, True)
 
 

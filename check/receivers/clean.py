@@ -1,7 +1,9 @@
 """Clean traffic: what two Linux hosts send each other, recorded where norm or a router would be.
 
-Each host is a process in a network namespace of its own, with a TUN device. This script carries packets between the two devices and records them. TCP connections are
-opened from either side, with requests and answers of different lengths; UDP carries datagrams that fit one packet, and some that are fragmented.
+Each host is a process in its own network namespace, with a TUN device. This script carries packets
+between the two devices and records them. TCP connections are opened from either side, with requests
+and answers of different lengths; UDP carries datagrams that fit one packet, and some that are
+fragmented.
 """
 
 import os
@@ -12,7 +14,7 @@ import socket
 import time
 from types import SimpleNamespace
 
-from norm_model.packets import capture_of
+from model.packets import capture_of
 from receivers import namespace
 
 OUTSIDE, INSIDE = "198.51.100.7", "10.0.0.1"
@@ -27,7 +29,8 @@ SETTINGS = {"ipv6/conf/all/disable_ipv6": 1, "ipv4/conf/all/rp_filter": 0}
 
 
 def start(own, peer, work):
-    """Starts a host that runs `work` once both listen; returns its process, its device, and a pipe on which it says that it is done."""
+    """Starts a host that runs `work` once both listen; returns its process, its device, and a pipe
+    on which it says that it is done."""
     here, there = socket.socketpair()
     process = os.fork()
     if process == 0:
@@ -35,7 +38,9 @@ def start(own, peer, work):
         try:
             namespace.enter()
             device = namespace.open_device("tun0", namespace.TUN)
-            namespace.configure(SETTINGS, ["link set lo up", "link set tun0 mtu 1500 up", "addr add %s dev tun0" % own, "route add %s dev tun0" % peer])
+            namespace.configure(SETTINGS,
+                                ["link set lo up", "link set tun0 mtu 1500 up", "addr add %s dev tun0" % own,
+                                 "route add %s dev tun0" % peer])
             listener = socket.create_server((own, PORT))
             socket.send_fds(there, [b"device"], [device])
             there.recv(1)
@@ -55,7 +60,8 @@ def start(own, peer, work):
 
 
 def serve(listener, count):
-    """Answers as many connections as are expected: a request has the lengths of itself and of its answer in front."""
+    """Answers as many connections as are expected: a request has the lengths of itself and of its
+    answer in front."""
     for _ in range(count):
         made, _ = listener.accept()
         with made:
@@ -89,7 +95,8 @@ def send_datagrams(address, rng):
 
 
 def record(seed, count):
-    """The packets of `count` connections from outside, as many from inside, and some datagrams from outside, as a capture."""
+    """The packets of `count` connections from outside, as many from inside, and some datagrams from
+    outside, as a capture."""
     def outside(listener):
         ask(INSIDE, random.Random("outside %s" % seed), count)
         send_datagrams(INSIDE, random.Random("datagrams %s" % seed))

@@ -1,21 +1,19 @@
 """The connections of a capture as receivers meet them: the eras of norm's report, and the packets
 of each, as sent and as forwarded."""
 
-import functools
 import os
 import subprocess
 from types import SimpleNamespace
 
-from norm_model import eras
-from norm_model.built import WHOLE
-from norm_model.capture import ETHERNET
-from norm_model.engine import read_segment
-from norm_model.formats import ACK, FIN, RST, SYN, TCP, four, pseudo_sum, read_ipv4, read_options, read_tcp, sum_right, u16, u32
-from norm_model.report import frames_by_entry, read_report
-from norm_model.run import read_input, run
-from norm_model.words import is_trusted
+from model import eras
+from model.built import WHOLE
+from model.engine import read_segment
+from model.formats import ACK, FIN, RST, SYN, TCP, four, read_ipv4, read_options, u32
+from model.report import frames_by_entry, read_report
+from model.run import run
+from receivers.packets import TIMESTAMPS, inward_of, key_of, packets_in, tcp_of
 
-TIMESTAMPS, SACK_PERMITTED = 8, 4
+SACK_PERMITTED = 4
 
 # The number of addresses that outside_like gives.
 OUTSIDES = 0x1FFF
@@ -23,28 +21,13 @@ OUTSIDES = 0x1FFF
 
 # Captures
 
-def packets_in(octets, inside=None):
-    """For each record its packet; none where it is no whole IPv4 frame."""
-    head, records, fault, _ = read_input(octets, inside)
-    if head is None or fault != "end":
-        raise ValueError("a capture that cannot be read to its end")
-    return [packet_of(head.link, record) for record in records]
-
-
-def packet_of(link, record):
-    if len(record.octets) < record.original:
-        return b""
-    if link == ETHERNET:
-        return record.octets[14:] if record.octets[12:14] == b"\x08\0" else b""
-    return record.octets
-
-
 def run_norm(program, words, given, folder):
     """Runs norm: its status, its report, and for each record the packets that were written."""
     paths = {"IN": os.path.join(folder, "in.pcap"), "OUT": os.path.join(folder, "out.pcap")}
     with open(paths["IN"], "wb") as file:
         file.write(given)
-    done = subprocess.run([program] + [paths.get(word, word) for word in words], stdout=subprocess.PIPE, stderr=subprocess.DEVNULL, timeout=120, check=False)
+    done = subprocess.run([program] + [paths.get(word, word) for word in words], stdout=subprocess.PIPE,
+                          stderr=subprocess.DEVNULL, timeout=120, check=False)
     if done.returncode != 0:
         return done.returncode, None, []
     with open(paths["OUT"], "rb") as file:
@@ -69,48 +52,6 @@ def by_record(text, written):
 
 # Packets
 
-def ports_at(packet):
-    """Where a TCP header begins whose ports are there, or None."""
-    ip = read_ipv4(packet)
-    at = max(ip.header, 20)
-    return at if len(packet) >= 20 and ip.protocol == TCP and ip.offset == 0 and at + 4 <= len(packet) else None
-
-
-def key_of(packet, inward):
-    """The four-tuple with the outside first, or None where the packet does not say its ports."""
-    at, ip = ports_at(packet), read_ipv4(packet)
-    if at is None:
-        return None
-    ends = (ip.src, u16(packet, at)), (ip.dst, u16(packet, at + 2))
-    return ends[0] + ends[1] if inward else ends[1] + ends[0]
-
-
-@functools.lru_cache(maxsize=4096)
-def tcp_of(packet, fragment=False):
-    """The segment of a packet that has a whole TCP header and, but for `fragment`, is no fragment;
-    or None."""
-    ip = read_ipv4(packet)
-    if ports_at(packet) is None or ip.mf and not fragment or not ip.header + 20 <= ip.total <= len(packet):
-        return None
-    tcp = read_tcp(packet[ip.header:ip.total])
-    return tcp if 20 <= tcp.header <= ip.total - ip.header else None
-
-
-def is_right(packet):
-    """False for a segment whose checksum is wrong."""
-    ip = read_ipv4(packet)
-    message = packet[ip.header:ip.total]
-    return tcp_of(packet) is None or sum_right(message, pseudo_sum(ip.src, ip.dst, TCP, len(message)))
-
-
-def inward_of(settings, packet):
-    """True for inbound, False for outbound, None where the packet is of neither side."""
-    if len(packet) < 20:
-        return None
-    trusted = is_trusted(settings, u32(packet, 12)), is_trusted(settings, u32(packet, 16))
-    return None if trusted[0] == trusted[1] else trusted[1]
-
-
 def renamed(packet, inward, outside, inside):
     """The packet with these addresses. Each has the sum of the one that it replaces, so every
     checksum stays as right or wrong as it was."""
@@ -123,41 +64,13 @@ def with_sum(address, high):
 
 
 def outside_like(address, number):
-    """The address with this number, of 8,191 in 192.0.0.0/3, in the place of one outside."""
+    """The address with this number, of 8,191 in 192.0.0.0/3, in place of one outside."""
     return with_sum(address, 0xC000 + number % OUTSIDES)
 
 
 def inside_like(address):
-    """The address in 10.0.0.0/16 in the place of one inside."""
+    """The address in 10.0.0.0/16 in place of one inside."""
     return with_sum(address, 0x0A00)
-
-
-def moved(packet, shift, echo=None):
-    """The packet with its acknowledgment, and its echoed timestamp, as the host's own numbers
-    require; a right checksum stays right and a wrong one wrong."""
-    at = ports_at(packet)
-    if at is None or at + 20 > len(packet) or not packet[at + 13] & ACK:
-        return packet
-    new = packet[:at + 8] + four(u32(packet, at + 8) + shift) + packet[at + 12:]
-    where = echo_at(packet)
-    if echo is not None and where is not None:
-        new = new[:where] + four(echo) + new[where + 4:]
-    check = (u16(packet, at + 16) + words_of(packet, at) - words_of(new, at)) % 65535
-    return new[:at + 16] + check.to_bytes(2, "big") + new[at + 18:]
-
-
-def words_of(packet, at):
-    """The sum of the segment's 16-bit words, its checksum left out."""
-    octets = packet[at:at + 16] + b"\0\0" + packet[at + 18:]
-    return sum(octets[0::2]) * 256 + sum(octets[1::2])
-
-
-def echo_at(packet):
-    tcp = tcp_of(packet)
-    if tcp is None:
-        return None
-    stamps = [option for option in read_options(tcp.options).options if option.kind == TIMESTAMPS and len(option.octets) == 10]
-    return read_ipv4(packet).header + 20 + stamps[0].at + 6 if stamps else None
 
 
 # Eras
@@ -186,13 +99,16 @@ def described(era, others):
     """What a receiver of the era is set up with. `last` is the record before the next era of the
     four-tuple begins."""
     later = [other.begun for other in others if other.key == era.key and other.begun > era.begun]
-    syns = [[segment for segment in era.segments if segment.inward == side and segment.flags & SYN] for side in (True, False)]
+    syns = [[segment for segment in era.segments if segment.inward == side and segment.flags & SYN]
+            for side in (True, False)]
     agreed = kinds_of(syns[0]) & kinds_of(syns[1]) if syns[0] and syns[1] else set()
     iss, first = eras.iss(era), era.segments[0]
     sent = (iss + 1) % 2**32 if iss is not None else first.ack if first.inward else first.seq
     opened = first.flags & (SYN | ACK | RST) == SYN
-    return SimpleNamespace(number=era.number, key=era.key, first=era.begun, last=min(later, default=2**32) - 1, base=eras.base(era), iss=iss, sent=sent,
-                           stamps=TIMESTAMPS in agreed, sack=SACK_PERMITTED in agreed, opener=("in" if first.inward else "out") if opened else None)
+    return SimpleNamespace(number=era.number, key=era.key, first=era.begun, last=min(later, default=2**32) - 1,
+                           base=eras.base(era), iss=iss, sent=sent,
+                           stamps=TIMESTAMPS in agreed, sack=SACK_PERMITTED in agreed,
+                           opener=("in" if first.inward else "out") if opened else None)
 
 
 def kinds_of(syns):
@@ -218,7 +134,8 @@ def packets_of_eras(settings, eras_of_report, forwarded):
 
 def has_stream(packets):
     """Whether an inward packet has octets, a FIN, or is a fragment."""
-    return any(packet.inward and (packet.tcp is None or packet.tcp.payload or packet.tcp.flags & FIN) for packet in packets)
+    return any(packet.inward and (packet.tcp is None or packet.tcp.payload or packet.tcp.flags & FIN)
+               for packet in packets)
 
 
 def flat(lists):

@@ -1,9 +1,12 @@
-"""The Linux kernel's own TCP as a receiver: it is fed through a TUN device in a network namespace, and what its socket returns is the reading.
+"""The Linux kernel's own TCP as a receiver: it is fed through a TUN device in a network namespace,
+and what its socket returns is the reading.
 
-A socket is set up in one of two ways. With its own handshake (`handshake`) the kernel chooses its first sequence number, so acknowledgments and echoed timestamps
-of inbound packets are shifted to what it chose. Otherwise (`repair`, TCP_REPAIR) the socket begins at the numbers of the era, and packets can be fed in any order.
-In both the octets that the capture's host sent are queued and never sent, so that acknowledgments of them are good. What the kernel sends is discarded. Each
-reading has an outside address of its own, so that nothing of one reading is left for the next.
+A socket is set up in one of two ways. With its own handshake (`handshake`) the kernel chooses its
+first sequence number, so acknowledgments and echoed timestamps of inbound packets are shifted to
+what it chose. Otherwise (`repair`, TCP_REPAIR) the socket begins at the numbers of the era, and
+packets can be fed in any order. In both the octets that the capture's host sent are queued and
+never sent, so that acknowledgments of them are good. What the kernel sends is discarded. Each
+reading has its own outside address, so that nothing of one reading is left for the next.
 """
 
 import contextlib
@@ -15,11 +18,12 @@ import struct
 import time
 from types import SimpleNamespace
 
-from norm_model.eras import near
-from norm_model.formats import ACK, FIN, ICMP, RST, SYN, four
-from norm_model.packets import icmp, ipv4
+from model.eras import near
+from model.formats import ACK, FIN, ICMP, RST, SYN, four
+from model.packets import icmp, ipv4
 from receivers import namespace
-from receivers.connections import echo_at, inside_like, key_of, moved, outside_like, renamed, tcp_of
+from receivers.connections import inside_like, outside_like, renamed
+from receivers.packets import echo_at, key_of, moved, tcp_of
 
 # Numbers of Linux that the module socket does not name.
 REPAIR, REPAIR_QUEUE, QUEUE_SEQ, REPAIR_OPTIONS, REPAIR_WINDOW, TCP_STATE = 19, 20, 21, 22, 29, 11
@@ -33,7 +37,8 @@ REPAIR_ON, REPAIR_OFF = 1, -1
 # Options in a repaired socket: the segment size, both window scales, SACK, timestamps.
 SEGMENT_SIZE, SCALE, SACK, STAMPS = 2, 3, 4, 8
 
-# States of a socket whose both sides are in step: all but SYN sent, SYN received, closed and listening.
+# States of a socket whose both sides are in step: all but SYN sent, SYN received, closed and
+# listening.
 IN_STEP = (1, 4, 5, 6, 8, 9, 11)
 
 WINDOW = 2**29
@@ -41,8 +46,10 @@ WINDOW = 2**29
 LONGEST_ANSWER = 2**22
 
 SETTINGS = {
-    "ipv4/conf/all/rp_filter": 0, "ipv4/conf/default/rp_filter": 0, "ipv4/conf/tun0/rp_filter": 0, "ipv6/conf/all/disable_ipv6": 1,
-    "ipv4/conf/all/log_martians": 0, "ipv4/tcp_syncookies": 0, "ipv4/tcp_fastopen": 0, "ipv4/tcp_max_tw_buckets": 0, "ipv4/tcp_no_metrics_save": 1, "ipv4/icmp_ratelimit": 0,
+    "ipv4/conf/all/rp_filter": 0, "ipv4/conf/default/rp_filter": 0, "ipv4/conf/tun0/rp_filter": 0,
+    "ipv6/conf/all/disable_ipv6": 1,
+    "ipv4/conf/all/log_martians": 0, "ipv4/tcp_syncookies": 0, "ipv4/tcp_fastopen": 0, "ipv4/tcp_max_tw_buckets": 0,
+    "ipv4/tcp_no_metrics_save": 1, "ipv4/icmp_ratelimit": 0,
     "ipv4/tcp_rmem": "4096 1048576 268435456", "ipv4/ipfrag_time": 5,
 }
 
@@ -50,14 +57,18 @@ ORDERS = ("in order", "reversed", "doubled", "shuffled")
 
 
 def open_host():
-    """The host: every address of 10.0.0.0/8 is its own, and all others are behind the device."""
+    """The host: every address of 10.0.0.0/8 is its own, and all others are reached through the
+    device."""
     device = namespace.open_device("tun0", namespace.TUN)
-    namespace.configure(SETTINGS, ["link set lo up", "link set tun0 mtu 65535 up", "route add default dev tun0", "route add local 10.0.0.0/8 dev lo"])
+    namespace.configure(SETTINGS,
+                        ["link set lo up", "link set tun0 mtu 65535 up", "route add default dev tun0",
+                         "route add local 10.0.0.0/8 dev lo"])
     return SimpleNamespace(device=device, readings=0)
 
 
 def arranged(packets, order):
-    """The packets in an order. But for `in order` the host has sent all that it sends before the first inbound packet; a reset of it is left out."""
+    """The packets in an order. But for `in order` the host has sent all that it sends before the
+    first inbound packet; a reset of it is left out."""
     if order == "in order":
         return packets
     inward = [packet for packet in packets if packet.inward]
@@ -78,11 +89,14 @@ def has(packet, flag):
 # One reading
 
 def reading(host, era, packets, order="in order", handshake=False):
-    """What the socket returns: the octets, whether the end followed, and the sequence number of the first octet. None where no socket was opened."""
+    """What the socket returns: the octets, whether the end followed, and the sequence number of the
+    first octet. None where no socket was opened."""
     host.readings += 1
     outside, inside = outside_like(era.key[0], host.readings), inside_like(era.key[2])
-    peer = SimpleNamespace(host=host, era=era, outside=outside, inside=inside, there=(dotted(outside), era.key[1]), here=(dotted(inside), era.key[3]),
-                           socket=None, listener=None, awaits_syn=handshake, shift=0, echo=None, sent=0, shut=False, octets=bytearray(), ended=False, gone=False, base=None)
+    peer = SimpleNamespace(host=host, era=era, outside=outside, inside=inside, there=(dotted(outside), era.key[1]),
+                           here=(dotted(inside), era.key[3]),
+                           socket=None, listener=None, awaits_syn=handshake, shift=0, echo=None, sent=0, shut=False,
+                           octets=bytearray(), ended=False, gone=False, base=None)
     try:
         open_handshake(peer) if handshake else open_repaired(peer)
         for packet in arranged(packets, order):
@@ -111,12 +125,15 @@ def new_socket():
 
 
 def set_option(made, name, *numbers):
-    made.setsockopt(socket.IPPROTO_TCP, name, struct.pack("=%dI" % len(numbers), *numbers) if len(numbers) > 1 or name == QUEUE_SEQ else numbers[0])
+    made.setsockopt(socket.IPPROTO_TCP, name,
+                    struct.pack("=%dI" % len(numbers), *numbers) if len(numbers) > 1 or name == QUEUE_SEQ
+                    else numbers[0])
 
 
 @contextlib.contextmanager
 def repairing(made):
-    """In it the socket is in repair mode. The kernel then takes its address for its own alone, where a later reading needs it."""
+    """In it the socket is in repair mode. The kernel then takes its address for its own alone,
+    where a later reading needs it."""
     set_option(made, REPAIR, REPAIR_ON)
     try:
         yield
@@ -142,7 +159,8 @@ def open_repaired(peer):
 
 
 def open_handshake(peer):
-    """A listening socket; where the inside opens, a socket that connects with the first SYN outwards."""
+    """A listening socket; where the inside opens, a socket that connects with the first SYN
+    outwards."""
     if peer.era.opener == "in":
         peer.listener = new_socket()
         peer.listener.bind(peer.here)
@@ -182,7 +200,8 @@ def accept(peer):
 
 
 def take_answers(peer):
-    """Reads what the kernel sent; its SYN has the numbers by which later packets are shifted. Returns the packets."""
+    """Reads what the kernel sent; its SYN has the numbers by which later packets are shifted.
+    Returns the packets."""
     packets = list(namespace.packets_from(peer.host.device))
     for octets in packets if peer.awaits_syn else []:
         tcp = tcp_of(octets)
@@ -206,23 +225,29 @@ def answer(peer, packet, handshake):
         if tcp.flags & RST:
             peer.gone = True
         else:
-            queue(peer, near(tcp.seq + bool(tcp.flags & SYN) + len(tcp.payload) - peer.era.sent, peer.sent), tcp.flags & FIN)
+            queue(peer, near(tcp.seq + bool(tcp.flags & SYN) + len(tcp.payload) - peer.era.sent, peer.sent),
+                  tcp.flags & FIN)
 
 
 def queue(peer, upto, fin):
-    """Puts octets up to this offset into the send queue, and the FIN behind them."""
+    """Puts octets up to this offset into the send queue, and the FIN after them."""
     if peer.shut or not 0 <= upto - peer.sent <= LONGEST_ANSWER:
         return
     try:
         with repairing(peer.socket):
             set_option(peer.socket, REPAIR_QUEUE, SEND_QUEUE)
-            while upto > peer.sent:
-                peer.sent += peer.socket.send(bytes(min(upto - peer.sent, 65536)))
-            if fin:
-                peer.socket.shutdown(socket.SHUT_WR)
-                peer.shut = True
+            send(peer, upto, fin)
     except OSError:
         pass        # The socket was reset.
+
+
+def send(peer, upto, fin):
+    """Sends octets up to this offset, and the FIN."""
+    while upto > peer.sent:
+        peer.sent += peer.socket.send(bytes(min(upto - peer.sent, 65536)))
+    if fin:
+        peer.socket.shutdown(socket.SHUT_WR)
+        peer.shut = True
 
 
 def drain(peer):
@@ -243,7 +268,8 @@ def drain(peer):
 
 
 def find_base(peer):
-    """The sequence number of the first octet, from the number of the next one while nothing is taken yet."""
+    """The sequence number of the first octet, from the number of the next one while nothing is
+    taken yet."""
     if peer.base is not None:
         return
     try:
@@ -260,7 +286,8 @@ def find_base(peer):
 
 
 def settle(peer):
-    """Waits until the kernel has worked on all packets that were written: until it answers an echo request behind them."""
+    """Waits until the kernel has worked on all packets that were written: until it answers an echo
+    request after them."""
     request = icmp(8, 0, struct.pack(">HH", 1, peer.host.readings % 65536))
     write(peer, ipv4(peer.outside, peer.inside, ICMP, request))
     deadline = time.monotonic() + 5

@@ -1,5 +1,6 @@
-/* libnids as a receiver: prints for each connection of a capture, as ADDR:PORT>ADDR:PORT HEX, what it delivers of the octets that the client sent and of those
-   that the server sent. Build: cc -o libnids libnids.c -lnids -lpcap */
+/* libnids as a receiver: prints for each connection of a capture, as ADDR:PORT>ADDR:PORT HEX, what
+   it delivers of the octets that the client sent and of those that the server sent.
+   Build: cc -o libnids libnids.c -lnids -lpcap */
 
 #include <arpa/inet.h>
 #include <nids.h>

@@ -1,7 +1,9 @@
-"""Programs that read streams from a capture: tshark, tcpflow, and libnids by libnids.c beside this file.
+"""Programs that read streams from a capture: tshark, tcpflow, and libnids by libnids.c beside this
+file.
 
-All connections are read from one capture. Each has an outside address of its own there, and a microsecond lies between two packets. A monitor that does not end
-before the deadline raises subprocess.TimeoutExpired.
+All connections are read from one capture. Each has its own outside address there, and a microsecond
+is between two packets. A monitor that does not end before the deadline raises
+subprocess.TimeoutExpired.
 """
 
 import glob
@@ -14,28 +16,29 @@ import tempfile
 import time
 from types import SimpleNamespace
 
-from norm_model.formats import SYN, four
-from norm_model.eras import near
-from norm_model.packets import head, record
+from model.formats import SYN, four
+from model.eras import near
+from model.packets import head, record
 from receivers.connections import inside_like, outside_like, renamed, tcp_of
 
 HERE = os.path.dirname(os.path.abspath(__file__))
 
 ETHERNET_HEAD = bytes.fromhex("02000000000202000000000108" + "00")
 
-# What tshark puts in the place of octets that the capture does not have: no receiver delivers it.
+# What tshark shows for octets that the capture does not have: no receiver delivers it.
 MISSING = re.compile(rb"\[\d+ bytes missing in capture file\]")
 
 CHUNK = 100
 
-# tcpflow's names of files: two ends, with leading zeros. A file with `c1` behind them goes on where sequence numbers jump, or begins another connection.
+# tcpflow's names of files: two ends, with leading zeros. A file with `c1` after them goes on where
+# sequence numbers jump, or begins another connection.
 FLOW = re.compile(r"(\d+)\.(\d+)\.(\d+)\.(\d+)\.(\d+)-(\d+)\.(\d+)\.(\d+)\.(\d+)\.(\d+)(c1)?")
 
 VERSION_WORDS = {"tshark": ["tshark", "--version"], "tcpflow": ["tcpflow", "-V"]}
 
 
 def available(folder):
-    """The monitors that are there, with their versions, and why others are not."""
+    """The installed monitors, with their versions, and why others are missing."""
     there, absent = {}, []
     for name, words in VERSION_WORDS.items():
         if shutil.which(name) is None:
@@ -55,7 +58,8 @@ def available(folder):
 def libnids_version():
     """That of Debian's package, or that of the shared library's name."""
     if shutil.which("dpkg-query"):
-        done = subprocess.run(["dpkg-query", "-W", "-f", "${Version}", "libnids-dev"], capture_output=True, text=True, check=False)
+        done = subprocess.run(["dpkg-query", "-W", "-f", "${Version}", "libnids-dev"], capture_output=True, text=True,
+                              check=False)
         if done.returncode == 0:
             return done.stdout.split("-")[0]
     names = glob.glob("/usr/lib/*/libnids.so.*") + glob.glob("/usr/lib/libnids.so.*")
@@ -63,12 +67,15 @@ def libnids_version():
 
 
 def renumbered(connections, path):
-    """The connections, pairs of an era and its packets, in a capture that is written to the path."""
+    """The connections, pairs of an era and its packets, in a capture that is written to the
+    path."""
     found = []
     for number, (era, packets) in enumerate(connections, 1):
         outside, inside = outside_like(era.key[0], number), inside_like(era.key[2])
         ends = "%s:%d" % (dotted(outside), era.key[1]), "%s:%d" % (dotted(inside), era.key[3])
-        found.append(SimpleNamespace(ends=ends, era=era, packets=[renamed(packet.octets, packet.inward, outside, inside) for packet in packets],
+        found.append(SimpleNamespace(ends=ends, era=era,
+                                     packets=[renamed(packet.octets, packet.inward, outside, inside)
+                                              for packet in packets],
                                      inward=[packet.octets for packet in packets if packet.inward]))
     with open(path, "wb") as file:
         file.write(capture_file(one for each in found for one in each.packets))
@@ -90,12 +97,14 @@ def dotted(address):
 
 
 def capture_file(packets):
-    records = [record(ETHERNET_HEAD + octets, number // 1000000, number % 1000000) for number, octets in enumerate(packets, 10**9)]
+    records = [record(ETHERNET_HEAD + octets, number // 1000000, number % 1000000)
+               for number, octets in enumerate(packets, 10**9)]
     return head(link=1) + b"".join(records)
 
 
 def without_gap(connection):
-    """How many octets of the stream there are before the first gap. tcpflow writes zeros into a gap and goes on behind it."""
+    """How many octets of the stream there are before the first gap. tcpflow writes zeros into a gap
+    and goes on after it."""
     spans = []
     for octets in connection.inward:
         tcp = tcp_of(octets, fragment=True)
@@ -110,7 +119,8 @@ def without_gap(connection):
 
 
 def run(words, folder, deadline):
-    return subprocess.run(words, capture_output=True, text=True, errors="replace", timeout=max(0, deadline - time.monotonic()), check=False,
+    return subprocess.run(words, capture_output=True, text=True, errors="replace",
+                          timeout=max(0, deadline - time.monotonic()), check=False,
                           env={**os.environ, "HOME": folder}).stdout
 
 
@@ -122,12 +132,14 @@ def read_tshark(folder, path, deadline):
     numbers = set()
     for line in run(words, folder, deadline).splitlines():
         number = line.split("\t")[0].split(",")[0]
-        if number:                                  # tshark calls a segment with a cut header TCP and gives it no stream.
+        # tshark calls a segment with a cut header TCP and gives it no stream.
+        if number:
             numbers.add(int(number))
     found = {}
     for start in range(0, max(numbers, default=-1) + 1, CHUNK):
         asked = [number for number in range(start, start + CHUNK) if number in numbers]
-        text = run(["tshark", "-r", path, "-n", "-q"] + [word for number in asked for word in ("-z", "follow,tcp,raw,%d" % number)], folder, deadline)
+        text = run(["tshark", "-r", path, "-n", "-q"]
+                   + [word for number in asked for word in ("-z", "follow,tcp,raw,%d" % number)], folder, deadline)
         streams = re.findall(r"Filter: tcp\.stream eq (\d+)\nNode 0: (\S+)\nNode 1: (\S+)\n((?:\t?[0-9a-f]*\n)*)", text)
         for _, one, other, lines in sorted(streams, key=lambda stream: int(stream[0])):
             parts = lines.split("\n")
@@ -142,7 +154,8 @@ def present(text):
 
 
 def read_tcpflow(folder, path, deadline):
-    """Streams by their ends; none where tcpflow writes the octets of two ends into several files."""
+    """Streams by their ends; none where tcpflow writes the octets of two ends into several
+    files."""
     found = {}
     with tempfile.TemporaryDirectory(dir=folder) as there:
         run(["tcpflow", "-r", path, "-o", there], folder, deadline)

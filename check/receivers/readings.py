@@ -5,8 +5,8 @@ import subprocess
 from concurrent.futures import ThreadPoolExecutor
 from types import SimpleNamespace
 
-from norm_model.formats import read_ipv4
-from norm_model.receivers import agree
+from model.formats import read_ipv4
+from model.receivers import agree
 from receivers import kernel, monitors, namespace, router, stacks
 from receivers.attacks import in_time
 from receivers.connections import OUTSIDES, flat, has_stream, packets_of_eras
@@ -14,7 +14,8 @@ from receivers.connections import OUTSIDES, flat, has_stream, packets_of_eras
 DISTANCES = (0, 20, 30)
 
 # Pairs of receivers, of which two may disagree: how they are named, in the order of the tables.
-ITSELF, ANY_ORDER, WITH_MONITOR, MONITORS, ANY = ("the kernel with itself, packets in order", "the kernel with itself, packets in any order", "the kernel with %s",
+ITSELF, ANY_ORDER, WITH_MONITOR, MONITORS, ANY = ("the kernel with itself, packets in order",
+                                                  "the kernel with itself, packets in any order", "the kernel with %s",
                                                   "two of the monitors", "any two")
 
 STACK_ITSELF, WITH_STACK, STACKS = "%s with itself, packets in any order", "the kernel with %s, packets in any order", "two of the other stacks, packets in any order"
@@ -25,12 +26,13 @@ def connections_of(attack, forwarded, routed):
     them."""
     found = packets_of_eras(attack.settings, attack.eras, forwarded)
     if routed:
-        found = [router.faithful(*three) for three in zip(attack.eras, packets_of_eras(attack.settings, attack.eras, flat(attack.sent)), found)]
+        found = [router.faithful(*three)
+                 for three in zip(attack.eras, packets_of_eras(attack.settings, attack.eras, flat(attack.sent)), found)]
     return [pair for pair in zip(attack.eras, found) if has_stream(pair[1])]
 
 
 def nearer(packets, routers):
-    """The packets that reach a host behind so many routers."""
+    """The packets that reach a host behind this number of routers."""
     return [packet for packet in packets if not packet.inward or read_ipv4(packet.octets).ttl > routers]
 
 
@@ -45,7 +47,8 @@ def runs_of(attack, era, packets, passed):
         seen.append([packet.octets for packet in arriving])
         for handshake, orders in ((True, kernel.ORDERS[:1] if era.opener else ()), (False, kernel.ORDERS)):
             for order in orders:
-                how = "%d routers, %s, %s" % (routers, order, "own handshake" if handshake else "begun at the connection's numbers")
+                how = ("%d routers, %s, %s"
+                       % (routers, order, "own handshake" if handshake else "begun at the connection's numbers"))
                 found.append(SimpleNamespace(packets=arriving, order=order, handshake=handshake, how=how))
     return found
 
@@ -77,8 +80,8 @@ def read_columns(host, others, folder, attacks, columns, deadlines):
     """What is read of each connection of each attack that the kernel reads in time. `others` has
     the names of monitors and those of stacks, `columns` for each column the packets forwarded of
     each attack, and `deadlines` those of the kernel and of the others. Returns the connections for
-    each column; the monitors that ended in time; and for each stack that did, for each column, in
-    how many runs it died and in how many it delivered octets that nobody sent."""
+    each column, and the monitors that ended in time. For each stack that did, and each column, it
+    also returns in how many runs it died and in how many it delivered octets that nobody sent."""
     found, (monitor_names, stack_names) = read_by_kernel(host, attacks, columns, deadlines[0]), others
     every = [one for column in columns for connections in found[column] for one in connections]
     opened = [one for one in every if one.era.opener]
@@ -97,7 +100,8 @@ def read_columns(host, others, folder, attacks, columns, deadlines):
 def captures_of(connections, folder):
     """The connections in captures, in each as many as there are outside addresses."""
     parts = [connections[i:i + OUTSIDES] for i in range(0, len(connections), OUTSIDES)]
-    return [monitors.renumbered([(one.era, one.packets) for one in part], os.path.join(folder, "part-%d.pcap" % i)) for i, part in enumerate(parts)]
+    return [monitors.renumbered([(one.era, one.packets) for one in part], os.path.join(folder, "part-%d.pcap" % i))
+            for i, part in enumerate(parts)]
 
 
 def streams_of(name, folder, captures, deadline):
@@ -118,7 +122,8 @@ def add_streams(opened, streams):
     for name, found in streams.items():
         for one, octets in zip(opened, found):
             if octets is not None:
-                one.readings.append(SimpleNamespace(receiver=name, order="in order", octets=octets, ended=False, how=""))
+                one.readings.append(SimpleNamespace(receiver=name, order="in order", octets=octets, ended=False,
+                                                    how=""))
 
 
 def add_readings(columns, results):
@@ -175,4 +180,5 @@ def kinds(names, stack_names=()):
     found = [ITSELF, ANY_ORDER]
     for name in stack_names:
         found += [STACK_ITSELF % name, WITH_STACK % name]
-    return found + [STACKS] * (len(stack_names) > 1) + [WITH_MONITOR % name for name in names] + [MONITORS] * (len(names) > 1) + [ANY]
+    return (found + [STACKS] * (len(stack_names) > 1) + [WITH_MONITOR % name for name in names]
+            + [MONITORS] * (len(names) > 1) + [ANY])

@@ -1,12 +1,13 @@
-"""The files check/results/hosts.txt and rivals.txt: what was read, with the versions and the date, in lines of fields with ` | ` between them."""
+"""The files check/receivers/measurements/hosts.txt and rivals.txt: what was read, with the versions
+and the date, in lines of fields with ` | ` between them."""
 
 import os
 import platform
 import time
 
-from norm_model.receivers import agree
+from model.receivers import agree
 
-FOLDER = os.path.join(os.path.dirname(os.path.dirname(os.path.abspath(__file__))), "results")
+FOLDER = os.path.join(os.path.dirname(os.path.abspath(__file__)), "measurements")
 
 BETWEEN = " | "
 
@@ -30,7 +31,8 @@ def read(name):
 
 def system(versions):
     release = platform.release().split("-")[0]
-    return ("system", ", ".join(["Linux " + release] + ["%s %s" % pair for pair in versions.items()]), time.strftime("%Y-%m-%d", time.gmtime()))
+    return ("system", ", ".join(["Linux " + release] + ["%s %s" % pair for pair in versions.items()]),
+            time.strftime("%Y-%m-%d", time.gmtime()))
 
 
 def shown(reading):
@@ -42,7 +44,8 @@ def longest(readings):
     """The readings of one connection that no other reading continues, each once."""
     found = []
     for one in readings:
-        if not any(agree(one, other) and (len(other.octets), other.ended) > (len(one.octets), one.ended) for other in readings):
+        if not any(agree(one, other) and (len(other.octets), other.ended) > (len(one.octets), one.ended)
+                   for other in readings):
             found.append(shown(one))
     return " or ".join(dict.fromkeys(found)) or "no octets"
 
@@ -58,7 +61,7 @@ def hosts_lines(versions, attacks, rows, before, after, broken):
     for row in rows:
         yield ("disagree",) + row
     for name, counts in broken.items():
-        yield ("broken", name) + counts["before"] + counts["after"]
+        yield ("broken", name) + counts["sent"] + counts["norm"]
     for attack, one, other in zip(attacks, before, after):
         if attack.kind == "evasion":
             receivers = ["kernel"] + list(versions)
@@ -81,7 +84,8 @@ def rivals_lines(nft, versions, attacks, rows, plain, kept, found):
     receivers = ["kernel"] + list(versions)
     for i, attack in enumerate(attacks):
         if attack.kind == "evasion":
-            yield ("evasion", attack.name) + tuple(longest(readings_of(column[i], receivers)) for column in found.values())
+            yield (("evasion", attack.name)
+                   + tuple(longest(readings_of(column[i], receivers)) for column in found.values()))
 
 
 def write_rivals(*found):

@@ -1,8 +1,10 @@
-"""A Linux router with netfilter in the place of norm: packets go in at one side and what it forwards comes out at the other, in a network namespace.
+"""A Linux router with netfilter in place of norm: packets go in at one side and what it forwards
+comes out at the other, in a network namespace.
 
-Inbound packets of an attack are written to the device outside, outbound ones to the one inside, octet for octet. The router works on a packet before the next one is
-written, so each packet that it forwards belongs to a record. Each attack has outside addresses of its own, so that one router serves all. No time passes between
-records.
+Inbound packets of an attack are written to the device outside, outbound ones to the one inside,
+octet for octet. The router works on a packet before the next one is written, so each packet that it
+forwards belongs to a record. Each attack has outside addresses of its own, so that one router
+serves all. No time passes between records.
 """
 
 import os
@@ -12,9 +14,9 @@ import subprocess
 import time
 from types import SimpleNamespace
 
-from norm_model.eras import near
-from norm_model.formats import ACK, FIN, ICMP, RST, SYN, URG, u32
-from norm_model.packets import icmp, ipv4
+from model.eras import near
+from model.formats import ACK, FIN, ICMP, RST, SYN, URG, u32
+from model.packets import icmp, ipv4
 from receivers import namespace
 from receivers.connections import inside_like, inward_of, outside_like, renamed
 
@@ -29,12 +31,14 @@ table ip filter {
 
 LEGAL = "{ syn, syn|ack, ack, fin|ack, rst, rst|ack }"
 
-# Options of TCP that stay: segment size, window scale and SACK permitted on a SYN, SACK, timestamps. Rules name an option by its number.
+# Options of TCP that stay: segment size, window scale and SACK permitted on a SYN, SACK,
+# timestamps. Rules name an option by its number.
 ON_SYN, ALWAYS = (2, 3, 4), (0, 1, 5, 8)
 
 
 def strongest():
-    """Connection tracking, and before it all that rules can drop or rewrite of what norm drops or rewrites."""
+    """Connection tracking, and before it all that rules can drop or rewrite of what norm drops or
+    rewrites."""
     bare = ", ".join("%d . %d" % (20 + 4 * words, words) for words in range(5, 16))
     rules = ["iifname != \"outside\" accept",
              "ip frag-off & 0x3fff != 0 drop",
@@ -50,7 +54,8 @@ def strongest():
              "tcp reserved != 0 tcp reserved set 0",
              "tcp urgptr != 0 tcp urgptr set 0"]
     legal = [SYN, SYN | ACK, ACK, FIN | ACK, RST, RST | ACK]
-    rules += ["tcp flags == 0x%02x tcp flags set 0x%02x" % (flags, flags & ~URG) for flags in range(256) if flags & URG and flags & (FIN | SYN | RST | ACK) in legal]
+    rules += ["tcp flags == 0x%02x tcp flags set 0x%02x" % (flags, flags & ~URG) for flags in range(256) if flags & URG
+              and flags & (FIN | SYN | RST | ACK) in legal]
     rules += ["tcp flags & syn == 0 reset tcp option %d" % kind for kind in ON_SYN]
     rules += ["reset tcp option %d" % kind for kind in range(256) if kind not in ON_SYN + ALWAYS]
     return """
@@ -73,9 +78,12 @@ table ip filter {
 RULES = {"tracking": TRACKING, "strongest": strongest()}
 
 SETTINGS = {
-    "ipv4/ip_forward": 1, "ipv4/conf/all/rp_filter": 0, "ipv4/conf/default/rp_filter": 0, "ipv4/conf/outside/rp_filter": 0, "ipv4/conf/inside/rp_filter": 0,
-    "ipv4/conf/all/send_redirects": 0, "ipv4/conf/all/log_martians": 0, "ipv6/conf/all/disable_ipv6": 1, "ipv4/icmp_ratelimit": 0,
-    "netfilter/nf_conntrack_tcp_loose": 0, "netfilter/nf_conntrack_tcp_be_liberal": 0, "netfilter/nf_conntrack_checksum": 1,
+    "ipv4/ip_forward": 1, "ipv4/conf/all/rp_filter": 0, "ipv4/conf/default/rp_filter": 0,
+    "ipv4/conf/outside/rp_filter": 0, "ipv4/conf/inside/rp_filter": 0,
+    "ipv4/conf/all/send_redirects": 0, "ipv4/conf/all/log_martians": 0, "ipv6/conf/all/disable_ipv6": 1,
+    "ipv4/icmp_ratelimit": 0,
+    "netfilter/nf_conntrack_tcp_loose": 0, "netfilter/nf_conntrack_tcp_be_liberal": 0,
+    "netfilter/nf_conntrack_checksum": 1,
 }
 
 PROBE_OUTSIDE, PROBE_INSIDE = 0xE0000000 - 0x100, 0x0AFFFFFE
@@ -85,12 +93,15 @@ def open_router(rules):
     """A router in this process's namespace, which has to be empty."""
     devices = {side: namespace.open_device(side, namespace.TUN) for side in ("outside", "inside")}
     subprocess.run(["nft", "-f", "-"], input=RULES[rules], text=True, check=True)
-    namespace.configure(SETTINGS, ["link set outside mtu 65535 up", "link set inside mtu 65535 up", "route add default dev outside", "route add 10.0.0.0/8 dev inside"])
+    namespace.configure(SETTINGS,
+                        ["link set outside mtu 65535 up", "link set inside mtu 65535 up",
+                         "route add default dev outside", "route add 10.0.0.0/8 dev inside"])
     return SimpleNamespace(devices=devices, attacks=0, probes=0)
 
 
 def forwarded(router, settings, sent):
-    """Pairs of a record's number and a packet that arrived, of those that were sent, in either direction."""
+    """Pairs of a record's number and a packet that arrived, of those that were sent, in either
+    direction."""
     router.attacks += 1
     known, found = {}, []
     for number, octets in sent:
@@ -101,7 +112,8 @@ def forwarded(router, settings, sent):
         new = outside_like(ends[0], router.attacks), inside_like(ends[1])
         known[new] = ends
         write(router.devices["outside" if inward else "inside"], renamed(octets, inward, *new))
-        found += [(number, original(packet, at == "inside", known)) for at, packet in settled(router) if original(packet, at == "inside", known)]
+        found += [(number, original(packet, at == "inside", known)) for at, packet in settled(router)
+                  if original(packet, at == "inside", known)]
     return found
 
 
@@ -119,7 +131,8 @@ def write(device, octets):
 
 
 def settled(router):
-    """What comes out at either side, until an echo request that was written behind it has come out inside."""
+    """What comes out at either side, until an echo request that was written after it has come out
+    inside."""
     router.probes += 1
     request = icmp(8, 0, struct.pack(">HHI", 1, 1, router.probes))
     write(router.devices["outside"], ipv4(PROBE_OUTSIDE, PROBE_INSIDE, ICMP, request))
@@ -135,16 +148,19 @@ def settled(router):
 
 
 def faithful(era, sent, arrived):
-    """The packets that arrived, up to the first record at which the inside acknowledges what was sent and did not arrive. Behind it the replay is no conversation that
-    could take place: with this router the inside would not have acknowledged it."""
+    """The packets that arrived, up to the first record at which the inside acknowledges what was
+    sent and did not arrive. After it the replay is not a conversation that could take place: with
+    this router the inside would not have acknowledged it."""
     tops = {"sent": -1, "arrived": -1}
-    events = [(packet.record, 0, "sent", packet) for packet in sent] + [(packet.record, 1, "arrived", packet) for packet in arrived if packet.inward]
+    events = ([(packet.record, 0, "sent", packet) for packet in sent]
+              + [(packet.record, 1, "arrived", packet) for packet in arrived if packet.inward])
     for record, _, which, packet in sorted(events, key=lambda event: event[:2]):
         tcp = packet.tcp
         if tcp is None:
             continue
         if packet.inward:
-            end = near(tcp.seq - era.base, max(tops["sent"], 0)) + len(tcp.payload) + bool(tcp.flags & SYN) + bool(tcp.flags & FIN)
+            end = (near(tcp.seq - era.base, max(tops["sent"], 0)) + len(tcp.payload) + bool(tcp.flags & SYN)
+                   + bool(tcp.flags & FIN))
             tops[which] = max(tops[which], end)
         elif tcp.flags & ACK and tops["arrived"] < near(tcp.ack - era.base, max(tops["sent"], 0)) <= tops["sent"]:
             return [one for one in arrived if one.record < record]

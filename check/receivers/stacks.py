@@ -2,13 +2,13 @@
 from 4.4BSD) and netstack (gVisor's).
 
 Each is a program that is built from Debian's packages with the sources in stacks/. It gets each
-connection as a host does: the inbound packets, and what its own side sends. A reading that begins
-at another octet than the connection is left out, and so is one with octets that no packet has; what
-a stack read before it died counts as a beginning of a stream.
+connection as a host does: the inbound packets, and what its own side sends. A reading that does not
+begin at the connection's first octet is left out, and so is one with octets that no packet has.
+What a stack read before it died counts as a beginning of a stream.
 
-With a folder of source packages (`apt-get source lwip libslirp`) there are variants: lwIP with
-windows of 1 GB, SACK and timestamps (`full`) and one as in small devices, which keeps no segment
-out of order (`small`); slirp with a host that opens, ends and resets (`full`).
+With a folder of source packages (`apt-get source lwip libslirp`) there are variants. The one of
+lwIP has windows of 1 GB, SACK and timestamps (`full`), or is as in small devices and keeps no
+segment out of order (`small`). The one of slirp has a host that opens, ends and resets (`full`).
 """
 
 import glob
@@ -20,13 +20,14 @@ import tempfile
 import time
 from types import SimpleNamespace
 
-from norm_model.eras import near
-from norm_model.formats import ACK, FIN, RST, SYN, TCP, URG
-from norm_model.packets import ipv4, tcp
+from model.eras import near
+from model.formats import ACK, FIN, RST, SYN, TCP, URG
+from model.packets import ipv4, tcp
 from receivers import kernel
-from receivers.connections import inside_like, outside_like, ports_at, renamed
+from receivers.connections import inside_like, outside_like, renamed
+from receivers.packets import ports_at
 
-HERE = os.path.join(os.path.dirname(os.path.abspath(__file__)), "stacks")
+HERE = os.path.join(os.path.dirname(os.path.abspath(__file__)), "stack_programs")
 
 NETSTACK, GO_SOURCES, NETSTACK_PACKAGE = "netstack", "/usr/share/gocode", "golang-gvisor-gvisor-dev"
 
@@ -93,7 +94,8 @@ def start(folder, sources=None):
     them."""
     builds = [build("lwIP", "liblwip-dev", cc(folder, "lwIP", "lwip.c", ["-I/usr/include/lwip"], ["-llwip"])),
               build("slirp", "libslirp-dev", cc(folder, "slirp", "slirp.c", ["-I/usr/include/slirp"], ["-lslirp"])),
-              build(NETSTACK, NETSTACK_PACKAGE, ["go", "build", "-o", os.path.join(folder, NETSTACK), "."], cwd=go_folder(folder),
+              build(NETSTACK, NETSTACK_PACKAGE, ["go", "build", "-o", os.path.join(folder, NETSTACK), "."],
+                    cwd=go_folder(folder),
                     env={**os.environ, "GO111MODULE": "off", "GOFLAGS": "", "GOPATH": GO_SOURCES})]
     if sources is not None:
         builds += variants(folder, sources)
@@ -128,7 +130,8 @@ def variants(folder, sources):
             own = os.path.join(folder, name + " options")
             write(os.path.join(own, "lwipopts.h"), LWIP_COMMON + options)
             write(os.path.join(own, "arch", "cc.h"), LWIP_COMPILER)
-            found.append(build(name, "liblwip-dev", cc(folder, name, "lwip.c", ["-I" + own, "-I" + os.path.join(top, "include")], core)))
+            found.append(build(name, "liblwip-dev",
+                               cc(folder, name, "lwip.c", ["-I" + own, "-I" + os.path.join(top, "include")], core)))
     for top in glob.glob(os.path.join(sources, "libslirp-[0-9]*", "src")):
         found.append(build("slirp full", "libslirp-dev", slirp_words(folder, top)))
     return found
@@ -138,11 +141,15 @@ def slirp_words(folder, top):
     own, numbers = os.path.join(folder, "slirp full options"), re.search(r"libslirp-(\d+)\.(\d+)\.(\d+)", top).groups()
     with open(os.path.join(top, "libslirp-version.h.in"), encoding="utf-8") as file:
         text = file.read()
-    for word, value in zip(("MAJOR_VERSION", "MINOR_VERSION", "MICRO_VERSION", "VERSION_STRING"), numbers + ('"%s.%s.%s"' % numbers,)):
+    for word, value in zip(("MAJOR_VERSION", "MINOR_VERSION", "MICRO_VERSION", "VERSION_STRING"),
+                           numbers + ('"%s.%s.%s"' % numbers,)):
         text = text.replace("@SLIRP_%s@" % word, value)
     write(os.path.join(own, "libslirp-version.h"), text)
-    glib = [subprocess.run(["pkg-config", one, "glib-2.0"], capture_output=True, text=True, check=False).stdout.split() for one in ("--cflags", "--libs")]
-    return cc(folder, "slirp full", "slirp.c", ["-DSLIRP_SOURCES", '-DG_LOG_DOMAIN="Slirp"', "-I" + own, "-I" + top] + glib[0], glob.glob(os.path.join(top, "*.c")) + glib[1])
+    glib = [subprocess.run(["pkg-config", one, "glib-2.0"], capture_output=True, text=True, check=False).stdout.split()
+            for one in ("--cflags", "--libs")]
+    return cc(folder, "slirp full", "slirp.c",
+              ["-DSLIRP_SOURCES", '-DG_LOG_DOMAIN="Slirp"', "-I" + own, "-I" + top] + glib[0],
+              glob.glob(os.path.join(top, "*.c")) + glib[1])
 
 
 def write(path, text):
@@ -163,7 +170,8 @@ def finished(builds):
 
 
 def version(package):
-    done = subprocess.run(["dpkg-query", "-W", "-f", "${Version}", package], capture_output=True, text=True, check=False) if shutil.which("dpkg-query") else None
+    done = (subprocess.run(["dpkg-query", "-W", "-f", "${Version}", package], capture_output=True, text=True,
+                           check=False) if shutil.which("dpkg-query") else None)
     return re.split(r"[-+]", done.stdout)[0] if done is not None and done.returncode == 0 else "of unknown version"
 
 
@@ -181,7 +189,8 @@ def read(name, folder, connections, deadline):
     with tempfile.NamedTemporaryFile("w", dir=folder, encoding="ascii") as file:
         file.writelines(line + "\n" for line in lines)
         file.flush()
-        done = subprocess.run([os.path.join(folder, name), file.name], capture_output=True, text=True, errors="replace", timeout=max(0, deadline - time.monotonic()),
+        done = subprocess.run([os.path.join(folder, name), file.name], capture_output=True, text=True,
+                              errors="replace", timeout=max(0, deadline - time.monotonic()),
                               check=True)
     lines = filter(None, map(READING.fullmatch, done.stdout.splitlines()))
     return [reading_of(name, parts, *runs[int(parts[1])]) for parts in lines]

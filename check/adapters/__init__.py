@@ -1,1 +1,0 @@
-"""Tests of the adapters in contrib/, one module a folder; check/tools runs them."""

@@ -1,0 +1,1 @@
+"""Comparisons of the built programs with the model."""

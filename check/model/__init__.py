@@ -1,0 +1,1 @@
+"""The plain model: a second reading of the rules of norm."""

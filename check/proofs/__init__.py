@@ -1,0 +1,1 @@
+"""Edits that must fail, what a theorem rests on, and false programs for each check."""
