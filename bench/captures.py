@@ -1,7 +1,8 @@
 """Makes the captures that `bench/run` times, each from a seed.
 
-Packets are packed from their fields, and checksums are added up from the fields and from running sums over one block of octets, so that making a
-record takes a few microseconds. Each kind of capture is a function; `KINDS` lists them.
+Packets are packed from their fields, and checksums are added up from the fields and from running
+sums over one block of octets, so that making a record takes a few microseconds. Each kind of
+capture is a function; `KINDS` lists them.
 """
 
 import itertools
@@ -18,7 +19,7 @@ UDP, TCP = 17, 6
 FIN, SYN, RST, ACK = 1, 2, 4, 16
 MORE = 0x2000
 
-# The octets of every payload are a slice of this block, which comes again after PERIOD octets.
+# The octets of every payload are a slice of this block, which repeats after PERIOD octets.
 PERIOD = 32749
 OCTETS = random.Random(11).randbytes(PERIOD)
 BLOCK = OCTETS + OCTETS + OCTETS
@@ -27,14 +28,15 @@ ODD = [0, *itertools.accumulate(octet << 8 if place % 2 == 1 else octet for plac
 
 
 def octets_at(place, size):
-    """The octets of a stream from a place on, and their sum as words."""
+    """The octets of a stream from an offset on, and their sum as words."""
     begin = place % PERIOD
     sums = ODD if begin % 2 else EVEN
     return BLOCK[begin:begin + size], sums[begin + size] - sums[begin]
 
 
 def checksum(total):
-    """The checksum that makes this sum right: 2^16 counts as 1, so that fields of 32 bits are added whole."""
+    """The checksum that makes this sum right: 2^16 counts as 1, so that fields of 32 bits are added
+    whole."""
     return 65535 - total % 65535
 
 
@@ -59,14 +61,14 @@ class Capture:
         self.parts.clear()
 
     def close(self):
-        """Answers how many records the capture has."""
+        """Returns how many records the capture has."""
         self.flush()
         self.file.close()
         return self.records
 
 
 def ip_head(source, target, protocol, size, number=0, fragment=0, ttl=64):
-    """A header of 20 octets before so many octets."""
+    """A header of 20 octets before this number of octets."""
     total = 0x4500 + size + 20 + number + fragment + (ttl << 8 | protocol) + source + target
     return IP_HEAD.pack(0x45, 0, size + 20, number, fragment, ttl, protocol, checksum(total), source, target)
 
@@ -90,7 +92,7 @@ def scaled_syn(source, sport, target, dport, seq, ack, flags, scale):
 
 
 def udp_packet(source, sport, target, dport, place, size, number=0, ttl=64):
-    """A message with so many octets from this place on, in its packet."""
+    """A message with this number of octets from this offset on, in its packet."""
     payload, payload_sum = octets_at(place, size)
     head = 0x4500 + size + 28 + number + (ttl << 8 | UDP) + source + target
     total = source + target + UDP + 2 * (size + 8) + sport + dport + payload_sum
@@ -99,7 +101,8 @@ def udp_packet(source, sport, target, dport, place, size, number=0, ttl=64):
 
 
 class Connection:
-    """A connection from outside, with the place behind its last octet and the one that is acknowledged."""
+    """A connection from outside, with the offset after its last octet and the one that is
+    acknowledged."""
 
     def __init__(self, number):
         self.outside = 0x64400000 + number
@@ -157,14 +160,15 @@ def ethernet(path, records, chance, _size):
 
 
 def turn_of(connection, draw):
-    """The kinds of the next records of a connection: data, a fifth of it twice, and half of it acknowledged at once."""
+    """The kinds of the next records of a connection: data, a fifth of it twice, and half of it
+    acknowledged at once."""
     again = ["again"] if draw() < 0.2 else []
     acked = ["ack"] if draw() < 0.5 or connection.end - connection.acked > 20000 else []
     return [*acked, *again, "data"]
 
 
 def begun(capture, flows):
-    """So many connections, each of which begins in the capture."""
+    """This number of connections, each of which begins in the capture."""
     connections = [Connection(number) for number in range(flows)]
     for connection in connections:
         capture.add(connection.syn())
@@ -173,11 +177,13 @@ def begun(capture, flows):
 
 
 def tcp(path, records, chance, flows):
-    """TCP: connections begin, then data inwards in segments of up to 1,000 octets, a fifth sent twice, a hundredth of that changed, and acknowledgments."""
+    """TCP: data inwards in segments of up to 1,000 octets, a fifth of them sent twice."""
+    # Connections begin first. A hundredth of the retransmissions is changed; data is acknowledged.
     capture = Capture(path)
     connections = begun(capture, flows)
     draw = chance.random
-    # Those under way, so that records of many connections stand in turn, and are of the same kinds however many connections there are.
+    # The connections under way. Their records alternate, and are of the same kinds however many
+    # connections there are.
     under_way = [(connections[0], [])] * 64
     for _ in range(records):
         place = int(draw() * 64)
@@ -199,7 +205,7 @@ def tcp(path, records, chance, flows):
 
 
 def fragments(path, records, chance, _size):
-    """UDP datagrams of 1,500 to 4,000 octets in three pieces each, those of 32 datagrams in turn."""
+    """UDP datagrams of 1,500 to 4,000 octets in three fragments each, 32 datagrams in turn."""
     capture = Capture(path)
     number = 0
     while capture.records < records:
@@ -219,7 +225,7 @@ def fragments(path, records, chance, _size):
 
 
 def lone(path, records, chance, _size):
-    """Fragments of 100 octets, each the first one of a datagram of its own."""
+    """Fragments of 100 octets, each the first one of its own datagram."""
     capture = Capture(path)
     payload, _ = octets_at(0, 80)
     for _ in range(records):
@@ -233,7 +239,7 @@ def stray_syn(chance):
 
 
 def syns(path, records, chance, flows):
-    """SYNs of connections that are never answered: the table fills, and then each comes in the place of the oldest one."""
+    """SYNs that are never answered: the table fills, and then each replaces the oldest one."""
     capture = Capture(path)
     for _ in range(flows + records):
         capture.add(stray_syn(chance))
@@ -241,7 +247,8 @@ def syns(path, records, chance, flows):
 
 
 def ports_in_one_chain(outside, inside, dport):
-    """The ports with which an address is in the first chain of a table of 4,096 connections under the seed 0 (`crates/tcp_norm/src/key.rt`)."""
+    """The ports with which an address is in the first chain of a table of 4,096 connections under
+    the seed 0 (`crates/tcp_norm/src/key.rt`)."""
     factor = 11400714819323198485
     first = ((outside << 16) * factor + (inside << 16 | dport)) * factor
     step = factor * factor % 2**64
@@ -249,7 +256,7 @@ def ports_in_one_chain(outside, inside, dport):
 
 
 def chains(path, records, chance, count):
-    """SYNs, again and again, of connections that the table of 4,096 keeps in one chain, where its seed is 0."""
+    """SYNs, again and again, of connections in one chain of a table of 4,096 with the seed 0."""
     capture = Capture(path)
     ends = []
     while len(ends) < count:
@@ -276,7 +283,8 @@ def held_syns(path, records, chance, flows):
 
 
 def filled_pool(capture, cells, flows):
-    """Connections that hold all cells: each has one octet in each of its first blocks of 256 places."""
+    """Connections that hold all cells: each has one octet in each of its first blocks of 256
+    offsets."""
     connections = [Connection(number) for number in range(flows)]
     for connection in connections:
         ends = connection.outside, connection.sport, connection.inside, 80
@@ -291,7 +299,8 @@ def filled_pool(capture, cells, flows):
 
 
 def pool(path, records, chance, cells, flows):
-    """Segments of one octet at places far from each other: the cells are filled from the front on, then places are drawn up to twice as far."""
+    """Segments of one octet at offsets far from each other: the cells are filled from the front on,
+    then offsets are drawn up to twice as far."""
     capture = Capture(path)
     connections = filled_pool(capture, cells, flows)
     for _ in range(records):
@@ -310,7 +319,7 @@ def pool_many(path, records, chance, cells):
 
 
 def pool_end(path, records, _chance, cells):
-    """One connection holds all cells: its last octet again and again, while acknowledgments take one octet after another from the front."""
+    """One connection holds all cells: its last octet again and again, while ACKs free the first."""
     capture = Capture(path)
     connection, = filled_pool(capture, cells, 1)
     for number in range(records):
@@ -322,7 +331,8 @@ def pool_end(path, records, _chance, cells):
 
 
 def resets(path, records, chance, flows):
-    """Resets of live connections: most outside of what is awaited, others awaited; now and then one outwards, and the connection begins again."""
+    """Resets of live connections: most outside of what is awaited, others awaited."""
+    # Now and then one goes outwards, and the connection begins again.
     capture = Capture(path)
     connections = begun(capture, flows)
     ended = None
@@ -344,7 +354,8 @@ def resets(path, records, chance, flows):
 
 
 def drops(path, records, chance, _size):
-    """Packets of 100 octets that are dropped for their form: version, header sum, sides, protocol, source route, flags, length, no connection."""
+    """Packets of 100 octets that are dropped for their form."""
+    # Version, header checksum, sides, protocol, source route, flags, length, no connection.
     capture = Capture(path)
     payload, payload_sum = octets_at(0, 60)
     for number in range(records):
@@ -386,8 +397,8 @@ def wrong_sums(path, records, chance, _size):
     return capture.close()
 
 
-# The kinds: the maker, by what the number of records is divided, the number of connections, cells or packets that it takes in a whole run and in a small
-# one, and norm's options.
+# The kinds: the maker, by what the number of records is divided, the number of connections, cells
+# or packets that it takes in a whole run and in a small one, and norm's options.
 KINDS = {
     "udp": (udp, 1, 0, 0, []),
     "ethernet": (ethernet, 5, 0, 0, []),
@@ -409,5 +420,6 @@ KINDS = {
 
 
 def make(kind, path, records, seed, size):
-    """Makes a capture of this kind with so many records beside those with which it begins, and answers how many it has in all."""
+    """Makes a capture of this kind with this number of records besides those with which it begins,
+    and returns how many it has in all."""
     return KINDS[kind][0](path, records, random.Random(seed), size)

@@ -1,4 +1,5 @@
-"""Draws speeds as a chart of bars: norm's beside those of other programs, for each kind of capture."""
+"""Draws speeds as a chart of bars: norm's next to those of other programs, for each kind of
+capture."""
 
 import json
 import os
@@ -6,18 +7,39 @@ import sys
 
 sys.path.insert(0, os.path.join(os.path.dirname(os.path.dirname(os.path.abspath(__file__))), "check"))
 
-from svg import Picture  # noqa: E402
+from pages.svg import Picture  # noqa: E402
 
-WIDTH, LEFT, RIGHT = 820, 130, 50
+WIDTH, LEFT, RIGHT = 820, 330, 50
 
 # The programs, with their labels and colours.
 PROGRAMS = (("norm", "norm", "#1d4ed8"), ("relay", "C program (bench/relay)", "#94a3b8"), ("tcpdump", "tcpdump -r -w", "#fcd34d"))
 
 BAR, GAP = 10, 9
 
+# What the records of a kind are.
+KINDS = {
+    "udp": "packets of 100 octets that pass",
+    "ethernet": "64 to 1,400 octets, the TTL of every fourth is raised",
+    "tcp-64": "64 connections, a fifth of the segments sent twice",
+    "tcp-4096": "4,096 connections, as above",
+    "tcp-60000": "60,000 connections, as above",
+    "fragments": "datagrams of up to 4,000 octets in three fragments",
+    "syns": "each SYN evicts a connection from a full table",
+    "held-syns": "SYNs, each connection of a full table holds an octet",
+    "chains": "SYNs of 1,024 connections in one chain",
+    "pool-one": "segments of one octet, one connection holds all cells",
+    "pool-many": "segments of one octet, each connection holds sixteen cells",
+    "pool-end": "the last octet of a connection with all cells, repeated",
+    "lone-fragments": "first fragments of datagrams never complete",
+    "resets": "resets, most of them unexpected",
+    "drops": "eight rules on the form of a packet",
+    "wrong-sums": "UDP and TCP with wrong checksums",
+}
+
 
 def figures(results, note):
-    """Returns what the chart shows: for each kind the millions of records a second of each program, to three digits."""
+    """Returns what the chart shows: for each kind the millions of records a second of each program,
+    to three digits."""
     rates = lambda result: {name: float("%.3g" % (result.records / result.runs[name][0] / 1e6)) for name, *_ in PROGRAMS if result.runs.get(name)}
     return {"note": note, "kinds": {result.kind: rates(result) for result in results}}
 
@@ -41,7 +63,10 @@ def drawn(shown):
     axis, y = len(picture.parts), 86
     for kind, rates in shown["kinds"].items():
         bars = [(colour, rates[name], name) for name, _, colour in PROGRAMS if name in rates]
-        picture.text(LEFT - 10, y + BAR * len(bars) / 2 + 4, kind, 11, text_anchor="end")
+        middle = y + BAR * len(bars) / 2
+        picture.text(LEFT - 10, middle + (-2 if kind in KINDS else 4), kind, 11, text_anchor="end", font_weight="bold")
+        if kind in KINDS:
+            picture.text(LEFT - 10, middle + 10, KINDS[kind], 10, text_anchor="end", fill="#64748b")
         for colour, rate, name in bars:
             length = max(rate / most * (WIDTH - LEFT - RIGHT), 1)
             picture.rect(LEFT, y, length, BAR - 1, colour)
@@ -54,7 +79,8 @@ def drawn(shown):
 
 
 def put_axis(picture, at, most, bottom):
-    """Puts a line and a number for each million behind the bars, which begin at this part of the picture."""
+    """Draws a line and a number for each million in the background of the bars, which begin at this
+    part of the picture."""
     lines = Picture(WIDTH, "", "")
     for million in range(int(most) + 1):
         x = LEFT + million / most * (WIDTH - LEFT - RIGHT)

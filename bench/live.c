@@ -1,10 +1,14 @@
-/* Sends UDP frames between two network namespaces at a rate, and says how many arrive, and after which time.
+/* Sends UDP frames between two network namespaces at a rate, and prints how many arrive, and after
+ * which time.
  *
- * live OUTSIDE INSIDE MODE LENGTH RATE SECONDS     OUTSIDE, INSIDE: files of the namespaces, each with an interface eth0
+ * live OUTSIDE INSIDE MODE LENGTH RATE SECONDS
  *
- * MODE is `in` (from the outside), `out`, `both`, or `trip`: the inside sends each frame back. It prints a line for each way:
- * frames sent, frames received within 0.1 seconds of the last one sent, and the 50th, 99th and 99.9th percentile of the time in
- * microseconds. LENGTH is in octets, without the frame check sequence, from 64 on. Each frame has the next one of 256 inside
+ * OUTSIDE and INSIDE are files of the namespaces, each with an interface eth0.
+ *
+ * MODE is `in` (from the outside), `out`, `both`, or `trip`: the inside sends each frame back. It
+ * prints a line for each way: frames sent, frames received within 0.1 seconds of the last one sent,
+ * and the 50th, 99th and 99.9th percentile of the time in microseconds. LENGTH is in octets,
+ * without the frame check sequence, from 64 on. Each frame has the next one of 256 inside
  * addresses, and right checksums. */
 #define _GNU_SOURCE
 #include <arpa/inet.h>
@@ -29,7 +33,8 @@ enum { BATCH = 32, LONGEST = 1514, HOSTS = 256, BUCKETS = 1 << 20, WAIT = 100000
 
 static const uint32_t OUTSIDE = 0xc6336403, INSIDE = 0x0a010000, MAGIC = 0x6e6f726d;   /* 198.51.100.3, 10.1.0.0 and on */
 
-/* Addresses of no host, so that the kernels of both hosts drop a frame once it is read: outside, inside. */
+/* Addresses of no host, so that the kernels of both hosts drop a frame once it is read: outside,
+ * inside. */
 static const unsigned char STATIONS[2][6] = {{2, 0, 0, 0, 0, 1}, {2, 0, 0, 0, 0, 2}};
 
 /* What a frame has from its 43rd octet on. The time is in nanoseconds. */

@@ -1,4 +1,5 @@
-/* Runs a program with nothing on its standard error, and writes its seconds and its own peak memory in KiB to standard error. */
+/* Runs a program with nothing on its standard error, and writes its seconds and its own peak memory
+   in KiB to standard error. */
 #define _DEFAULT_SOURCE
 #include <fcntl.h>
 #include <stdio.h>

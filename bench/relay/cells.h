@@ -1,4 +1,4 @@
-/* Octets by place, in cells of 256 that are linked by block. */
+/* Octets by offset, in cells of 256 that are linked by block. */
 
 struct cell { uint32_t next; uint64_t block, known[4]; uint8_t octets[CELL]; };
 /* The first `made` cells are in chains or in the free list; the others were never used. */
@@ -36,7 +36,7 @@ static void forget_all(struct pool *pool, struct chain *c) {
     while (c->first != NONE) forget_first(pool, c);
 }
 
-/* The cell of a block, or the one behind which it belongs, NONE at the front. */
+/* The cell of a block, or the one after which it belongs, NONE at the front. */
 static bool seek(const struct pool *pool, const struct chain *c, uint64_t block, uint32_t *at) {
     const struct cell *cells = pool->cells;
     uint32_t after = c->near != NONE && cells[c->near].block <= block ? c->near : NONE;
@@ -48,7 +48,7 @@ static bool seek(const struct pool *pool, const struct chain *c, uint64_t block,
     return there;
 }
 
-/* The cell of a block, taken where there is none; one is free then. */
+/* The cell of a block, taken if there is none; a cell is free in this case. */
 static struct cell *cell_for(struct pool *pool, struct chain *c, uint64_t block) {
     struct cell *cells = pool->cells;
     uint32_t at;
@@ -78,13 +78,14 @@ static bool fits(const struct pool *pool, const struct chain *c, uint64_t lo, ui
     return missing <= pool->free;
 }
 
-/* The bits of a cell's word from one place to before another. */
+/* The bits of a cell's word from one offset to before another. */
 static uint64_t bits(unsigned word, unsigned from, unsigned to) {
     unsigned lo = word * 64 > from ? 0 : from - word * 64, hi = to >= word * 64 + 64 ? 64 : to - word * 64;
     return (hi == 64 ? UINT64_MAX : (UINT64_C(1) << hi) - 1) & (UINT64_MAX << lo);
 }
 
-/* Keeps the octets that are first at their places, and puts the kept ones in place of others; answers whether one differed. */
+/* Keeps the octets that are first at their offsets, and replaces others by the kept ones; returns
+   whether one differed. */
 static bool settle_piece(struct chain *c, struct cell *cell, unsigned from, unsigned to, uint8_t *octets) {
     bool changed = false;
     for (unsigned word = from / 64; word <= (to - 1) / 64; word++) {
@@ -130,7 +131,7 @@ static void forget_below(struct pool *pool, struct chain *c, uint64_t place) {
     if (left == 0) forget_first(pool, c);
 }
 
-/* The front of a chain whose octets are all there, copied out. */
+/* The front of a chain whose octets are all present, copied out. */
 static void copy_out(const struct pool *pool, const struct chain *c, uint8_t *to, size_t size) {
     for (uint32_t id = c->first; size > 0; id = pool->cells[id].next) {
         size_t part = size < CELL ? size : CELL;

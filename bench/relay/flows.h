@@ -13,7 +13,7 @@ struct flow {
     int8_t in_scale, out_scale;      /* -1: none */
 };
 static struct pool streams;
-static struct flow *flows;           /* the last one is the hub of both lists */
+static struct flow *flows;           /* the last one is the sentinel of both lists */
 static uint32_t *buckets;
 static uint32_t flow_limit, bucket_mask, live, begun, free_flow, hub;
 
@@ -80,7 +80,8 @@ static void tell_end(struct fate *fate, const struct flow *f, const char *reason
     fate->ends_length = (size_t)(at - fate->ends);
 }
 
-/* A new flow, in the place of the one without cells that was touched first, where the table is full; NONE where each has cells. */
+/* A new flow; if the table is full, it replaces the one without cells that was touched first; NONE
+   if each has cells. */
 static uint32_t begin_flow(struct fate *fate, uint32_t outside, uint32_t inside, uint32_t ports) {
     if (live == flow_limit) {
         uint32_t oldest = flows[hub].empty.after;
@@ -162,7 +163,7 @@ static uint64_t next_place(const struct flow *f) {
     return f->has_end && f->end + 1 > next ? f->end + 1 : next;
 }
 
-/* An outbound segment moves its flow on: what is acknowledged, the window's edge, the SYN and the FIN. */
+/* An outbound segment updates its flow: what is acknowledged, the window's edge, SYN and FIN. */
 static void sent_out(struct flow *f, const struct segment *s) {
     if (s->flags & ACK) {
         unsigned shift = s->flags & SYN ? 0 : shift_of(f);
@@ -213,7 +214,8 @@ static void go_out(struct fate *fate, struct packet *p, const struct segment *s,
     touch(id, now);
 }
 
-/* Writes the probe of a flow behind the packet that stands in `p`: ACK alone, one before what the inside awaits. */
+/* Writes the probe of a flow after the packet in `p`: ACK alone, one before what the inside
+   awaits. */
 static void probe(uint8_t *to, const struct packet *p, const struct segment *s, uint32_t seq, uint32_t ack) {
     memcpy(to, p->octets, 20);
     put16(to + 2, 40);
@@ -228,7 +230,8 @@ static void probe(uint8_t *to, const struct packet *p, const struct segment *s, 
     put16(to + 36, 0xffff - message_sum(to, to + 20, 20));
 }
 
-/* A segment of the stream: what is acknowledged, past the window or past the end is cut off, and its octets are the first at their places. */
+/* A segment of the stream: what is acknowledged, past the window or past the end is cut off, and
+   its octets are the first at their offsets. */
 static void come_stream(struct fate *fate, struct packet *p, const struct segment *s, uint32_t id, uint32_t now) {
     struct flow *f = &flows[id];
     int64_t from = offset_of(f, s->seq), to = from + s->length;
@@ -281,7 +284,7 @@ static void come_cold(struct fate *fate, struct packet *p, const struct segment 
     touch(id, now);
 }
 
-/* An inbound SYN of a flow that is there. */
+/* An inbound SYN of a flow that exists. */
 static void come_call(struct fate *fate, struct packet *p, const struct segment *s, uint32_t id, uint32_t now, uint8_t *second) {
     struct flow *f = &flows[id];
     uint32_t number = f->number, ports = f->ports;

@@ -44,7 +44,7 @@ static void give(struct end *to, const void *from, size_t size) {
     to->size += size;
 }
 
-/* Numbers and sums. */
+/* Numbers and checksums. */
 
 static uint32_t get16(const uint8_t *p) { return (uint32_t)p[0] << 8 | p[1]; }
 static uint32_t get32(const uint8_t *p) { return get16(p) << 16 | get16(p + 2); }
@@ -53,7 +53,8 @@ static void put32(uint8_t *p, uint32_t v) { put16(p, v >> 16); put16(p + 2, v); 
 static uint32_t low32(const uint8_t *p) { return p[0] | (uint32_t)p[1] << 8 | (uint32_t)p[2] << 16 | (uint32_t)p[3] << 24; }
 static void put_low32(uint8_t *p, uint32_t v) { for (int i = 0; i < 4; i++) p[i] = (uint8_t)(v >> (8 * i)); }
 
-/* The sum of the words of these octets and of `extra`, in 16 bits. The words are added as the machine reads them (RFC 1071 section 2). */
+/* The sum of the words of these octets and of `extra`, in 16 bits. The words are added as the
+   machine reads them (RFC 1071 section 2). */
 static uint32_t sum_of(const uint8_t *p, size_t n, uint64_t extra) {
     uint64_t sum = 0;
     uint32_t word, header[5];

@@ -3,11 +3,11 @@
 struct packet {
     uint8_t *octets, *message;       /* the IPv4 header, and what it carries */
     size_t size;                     /* of the message */
-    bool inward, raised, rewritten;  /* the TTL was raised; the segment was written anew */
+    bool inward, raised, rewritten;  /* the TTL was raised; the segment was rewritten */
 };
 
 struct fate {
-    char rules[160], ends[160];      /* as the line tells them */
+    char rules[160], ends[160];      /* as the report has them */
     size_t length, ends_length;
     int frames;                      /* 0: dropped */
     bool fixed, held;

@@ -1,12 +1,12 @@
-/* Fragments: the datagrams of which pieces are held, in the order of their first ones. */
+/* Fragments: the datagrams with held fragments, in the order of their first ones. */
 
 struct datagram {
     uint32_t source, target, mark;   /* mark: the protocol and the identification */
     uint32_t next;                   /* in its bucket, or among those that are free */
     uint32_t younger, older;
-    uint32_t since, total, reach;    /* total: 0 until the last piece is held */
+    uint32_t since, total, reach;    /* total: 0 until the last fragment is held */
     struct chain kept;
-    uint8_t front[20];               /* the header of the piece at offset 0 that came first */
+    uint8_t front[20];               /* the header of the first fragment at offset 0 */
     bool has_front;
 };
 static struct pool pieces;
@@ -57,7 +57,7 @@ static uint32_t begin_datagram(uint32_t source, uint32_t target, uint32_t mark, 
     return id;
 }
 
-/* Takes a fragment: it is held or dropped, or its datagram is whole and stands in its place. */
+/* Takes a fragment: it is held or dropped, or its datagram is complete and replaces it. */
 static bool join(struct fate *fate, struct packet *p, uint32_t now) {
     uint8_t *head = p->octets;
     uint32_t from = get16(head + 6) % 8192 * 8, to = from + (uint32_t)p->size, mark = (uint32_t)head[9] << 16 | get16(head + 4);

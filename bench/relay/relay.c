@@ -1,12 +1,14 @@
-/* A measure for norm's speed: a C program that does like work, with nothing proved.
+/* A measure for norm's speed: a C program that does similar work, with nothing proved.
 
    usage: relay [--flows N] [--cells N] IN OUT PREFIX
 
-   It reads and writes through buffers of 64 KiB, verifies the sums of IPv4, TCP, UDP and ICMP, follows connections in a table
-   (hash chains by a seed, and lists by recency), keeps unacknowledged inbound octets in cells of 256 and mends retransmissions
-   from them, puts fragments together, raises low TTLs, and writes one line a record. All its memory is taken at the begin. Captures are little-endian,
-   in microseconds, of Ethernet or raw IP. It drops packets with IP options, cleans no TCP options, and does not answer as norm does
-   for every odd packet; for plain traffic the capture that it writes is norm's. */
+   It reads and writes through buffers of 64 KiB, verifies the checksums of IPv4, TCP, UDP and ICMP,
+   and follows connections in a table (hash chains by a seed, and lists by recency). It keeps
+   unacknowledged inbound octets in cells of 256 and rewrites retransmissions by them, reassembles
+   fragments, raises low TTLs, and writes one line per record. It allocates all its memory at the
+   start. Captures are little-endian, in microseconds, of Ethernet or raw IP. It drops packets with
+   IP options, cleans no TCP options, and does not answer as norm does for every odd packet; for
+   plain traffic the capture that it writes is norm's. */
 #define _POSIX_C_SOURCE 200809L
 #include <arpa/inet.h>
 #include <fcntl.h>
@@ -62,7 +64,7 @@ static uint32_t prefix, mask;
 
 static bool trusted(const uint8_t *address) { return (get32(address) & mask) == prefix; }
 
-/* The first row on the header that drops a packet of which so many octets stand, or NULL. */
+/* The first rule on the header that drops a packet with this number of octets, or NULL. */
 static const char *header_row(const uint8_t *p, size_t size, bool *sided) {
     *sided = false;
     if (size < 20) return "I_SHORT";
@@ -80,7 +82,7 @@ static const char *header_row(const uint8_t *p, size_t size, bool *sided) {
     return NULL;
 }
 
-/* Judges the packet of a record, mends it in place, and answers its size. */
+/* Judges the packet of a record, rewrites it in place, and returns its size. */
 static size_t judge(struct fate *fate, uint8_t *octets, size_t size, uint32_t now, const char **side, uint8_t *second) {
     bool sided;
     const char *row = header_row(octets, size, &sided);
