@@ -1,8 +1,8 @@
 //! A source of octets and a sink for octets.
 ghost use Rattle.std.specs.Prelude.{◌≡◌, List, ℕ};
 ghost use Rattle.std.specs.declared.option.Option.{Option};
-ghost use Rattle.edge_io.specs.Faults.{HasCause};
-ghost use Rattle.edge_io.specs.Octets.{Fetches, Puts, Flushes};
+ghost use Rattle.edge_io.specs.FaultCounts.{HasCause};
+ghost use Rattle.edge_io.specs.KnownOctets.{Fetches, Puts, Flushes};
 
 use crate::Failed;
 

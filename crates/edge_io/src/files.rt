@@ -1,18 +1,22 @@
 //! A source and sinks over files and standard output.
-ghost use Rattle.std.specs.Prelude.{◌≡◌, ◌<◌, ◌≤◌, ◌↔◌, [], None, true, false, is_some, is_ok, length, IfOk, OnOk, OnErr, IsErr, IsSome};
-ghost use Rattle.edge_io.specs.Faults.{HasCause, next_count};
-ghost use Rattle.edge_io.specs.Outside.{OutsideEnd};
+ghost use Rattle.std.specs.Prelude.{◌≡◌, ◌<◌, ◌≤◌, ◌↔◌, [], None, true, false, is_some, is_ok, length, option_and_then, IfOk, OnOk, OnErr, IsErr, IsSome};
+ghost use Rattle.std.specs.Result.{result_ok};
+ghost use Rattle.std.specs.Io.KnownBytes.{Appends, Keeps};
+ghost use Rattle.edge_io.specs.FaultCounts.{HasCause, next_count};
+ghost use Rattle.edge_io.specs.OutsideEnds.{OutsideEnd, OutsideSink, octets_of};
+ghost use Rattle.edge_io.specs.WriteBehind.{written_of, buffered_of};
 
-mod ahead;
-mod behind;
+mod read_ahead;
+mod write_behind;
 
 use crate::{Failed, Sink, Source};
-use ahead::ReadAhead;
-use behind::WriteBehind;
+use read_ahead::ReadAhead;
+pub use read_ahead::read_full;
 use std::fs::File;
 use std::io;
 use std::io::{ErrorKind, Read, Stdout, Write};
 use std::marker::Model;
+use write_behind::WriteBehind;
 
 /// Size of the buffer of a file or of standard output, in octets.
 const BUFFER_OCTETS: usize = 65_536;
@@ -28,7 +32,7 @@ pub type LineOut = BufferedSink<Stdout>;
 
 // Returns the reader or the writer, or the error of one that is missing.
 fn there<T>(end: Option<T>) -> io::Result<T>
-    ensures { is_ok result ≡ is_some end }
+    ensures { result_ok result ≡ end }
 {
     match end {
         Some(end) => Ok(end),
@@ -123,20 +127,24 @@ impl<R: Read + Drop> Source for BufferedSource<R> {
     }
 }
 
-/// A writer outside the program, with a write buffer. Its octets are not known. Octets may stay in
-/// the buffer until `flush`; dropping the sink writes none. After a failed write the buffered
-/// octets are discarded.
+/// A writer outside the program, with a write buffer. Its octets are known if the writer's are.
+/// Octets may stay in the buffer until `flush`; dropping the sink writes none. After a failed write
+/// the buffered octets are discarded.
 #[derive(Drop)]
-pub struct BufferedSink<W> {
+pub struct BufferedSink<W: Write> {
     /// The writer, or why there is none.
     behind: io::Result<WriteBehind<W>>,
     faults: u64,
 }
 
-impl<W> Model for BufferedSink<W> {
-    ghost Value = { OutsideEnd };
+impl<W: Write> Model for BufferedSink<W> {
+    ghost Value = { OutsideSink };
 
-    ghost view = { λ s. record { is_there = is_ok s.behind; faults = s.faults } };
+    ghost view = { λ s. record {
+      outside = record { is_there = is_ok s.behind; faults = s.faults };
+      written = written_of W.contents s.behind;
+      buffered = buffered_of s.behind;
+    } };
 
     ghost invariant = { λ s. 0 < s.faults → IfOk s.behind (λ behind. IsSome behind.last_error) };
 }
@@ -144,7 +152,11 @@ impl<W> Model for BufferedSink<W> {
 impl<W: Write + Drop> BufferedSink<W> {
     /// Returns a sink over this writer. Without a writer every call fails.
     pub fn over(end: Option<W>) -> BufferedSink<W>
-        ensures { result ≡ record { is_there = is_some end; faults = 0 } }
+        ensures { result ≡ record {
+          outside = record { is_there = is_some end; faults = 0 };
+          written = option_and_then W.contents end;
+          buffered = [];
+        } }
     {
         BufferedSink::opened(there(end))
     }
@@ -152,7 +164,11 @@ impl<W: Write + Drop> BufferedSink<W> {
     /// Returns a sink over the writer that was opened. If the opening failed, every call fails by
     /// its error.
     pub fn opened(end: io::Result<W>) -> BufferedSink<W>
-        ensures { result ≡ record { is_there = is_ok end; faults = 0 } }
+        ensures { result ≡ record {
+          outside = record { is_there = is_ok end; faults = 0 };
+          written = option_and_then W.contents (result_ok end);
+          buffered = [];
+        } }
     {
         BufferedSink {
             behind: end.map(WriteBehind::new),
@@ -162,7 +178,7 @@ impl<W: Write + Drop> BufferedSink<W> {
 
     /// Returns the error of the last call that failed.
     pub fn last_error(&self) -> Option<io::Error>
-        ensures { IsSome result ↔ 0 < self.now.faults }
+        ensures { IsSome result ↔ 0 < self.now.outside.faults }
     {
         if self.faults == 0 {
             return None;
@@ -177,7 +193,7 @@ impl<W: Write + Drop> BufferedSink<W> {
     /// that failed; none if octets were buffered since.
     pub fn last_written(&self) -> &[u8]
         ensures few { length result.now ≤ BUFFER_OCTETS }
-        ensures over_none { self.now.is_there ≡ false → result.now ≡ [] }
+        ensures over_none { self.now.outside.is_there ≡ false → result.now ≡ [] }
     {
         match &self.behind {
             Ok(behind) => behind.last_written(),
@@ -189,15 +205,16 @@ impl<W: Write + Drop> BufferedSink<W> {
 impl<W: Write + Drop> Sink for BufferedSink<W> {
     ghost held = { λ _. None };
 
-    ghost fault_count = { λ s. s.faults };
+    ghost fault_count = { λ s. s.outside.faults };
 
     /// Buffers the octets; calls the writer only if they do not fit into the buffer.
     fn put(&mut self, bytes: &[u8]) -> Result<(), Failed>
-        ensures cause { HasCause self.old.faults self.new.faults result }
-        ensures over_none { self.old.is_there ≡ false → IsErr result }
-        ensures ok { OnOk result (self.new ≡ self.old) }
-        ensures failed { OnErr result (self.new ≡ record self.old {
-          faults = next_count self.old.faults;
+        ensures appended { OnOk result (Appends (octets_of self.old) (octets_of self.new) bytes.now) }
+        ensures cause { HasCause self.old.outside.faults self.new.outside.faults result }
+        ensures over_none { self.old.outside.is_there ≡ false → IsErr result }
+        ensures ok { OnOk result (self.new.outside ≡ self.old.outside) }
+        ensures failed { OnErr result (self.new.outside ≡ record self.old.outside {
+          faults = next_count self.old.outside.faults;
         }) }
     {
         let result = match &mut self.behind {
@@ -212,11 +229,13 @@ impl<W: Write + Drop> Sink for BufferedSink<W> {
 
     /// Writes the buffered octets.
     fn flush(&mut self) -> Result<(), Failed>
-        ensures cause { HasCause self.old.faults self.new.faults result }
-        ensures over_none { self.old.is_there ≡ false → IsErr result }
-        ensures ok { OnOk result (self.new ≡ self.old) }
-        ensures failed { OnErr result (self.new ≡ record self.old {
-          faults = next_count self.old.faults;
+        ensures written { OnOk result (Keeps (octets_of self.old) self.new.written) }
+        ensures empty { self.new.buffered ≡ [] }
+        ensures cause { HasCause self.old.outside.faults self.new.outside.faults result }
+        ensures over_none { self.old.outside.is_there ≡ false → IsErr result }
+        ensures ok { OnOk result (self.new.outside ≡ self.old.outside) }
+        ensures failed { OnErr result (self.new.outside ≡ record self.old.outside {
+          faults = next_count self.old.outside.faults;
         }) }
     {
         let result = match &mut self.behind {

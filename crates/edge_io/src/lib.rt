@@ -10,12 +10,16 @@
 //! reaches the end of the source. An `Outbox` is the list of the frames put into it: at most two,
 //! of at most 65,549 octets each.
 //!
-//! `FileSource`, `FileSink` and `LineOut` have no known octets, so no public clause describes the
-//! octets of a file. Their clauses state that every call without a file fails, and how the count of
-//! faults changes. There is a last error if and only if a call failed, and a fetch returns at most
-//! the length of the buffer. No clause states which error that is. The private `ReadAhead` and
-//! `WriteBehind` are proved to keep buffered octets in order and to lose none unless a call fails,
-//! for readers and writers with known octets; for files this is tested.
+//! A `BufferedSink` over a writer with known octets keeps their order and loses none unless a call
+//! fails. After a `put` the octets of the writer and then those in the buffer are what they were,
+//! followed by its argument. After a `flush` the writer has them all.
+//!
+//! The octets of files and of standard output are not known, so no public clause describes them.
+//! The clauses of `FileSource`, `FileSink` and `LineOut` state that every call without a file
+//! fails, and how the count of faults changes. There is a last error if and only if a call failed,
+//! and a fetch returns at most the length of the buffer. No clause states which error that is. The
+//! private `ReadAhead` is proved to keep buffered octets in order and to lose none, for readers
+//! with known octets; for files this is tested.
 //!
 //! Choices: a write is repeated by std's `write_all`, which refuses a write that takes nothing; an
 //! interrupted read is tried 1,000 times. `Sink::flush` does nothing by default, since a sink with
@@ -25,13 +29,11 @@
 pub mod ends;
 pub mod faults;
 pub mod files;
-pub mod fill;
 pub mod memory;
 pub mod outbox;
 
 pub use ends::{Sink, Source};
 pub use faults::{Failed, NoMemory};
-pub use files::{BufferedSink, BufferedSource, FileSink, FileSource, LineOut};
-pub use fill::read_full;
+pub use files::{BufferedSink, BufferedSource, FileSink, FileSource, LineOut, read_full};
 pub use memory::{MemSink, MemSource};
 pub use outbox::{MAX_FRAME, Outbox};

@@ -1,8 +1,8 @@
 //! A source and a sink in memory, which fail at the calls that a list names.
 ghost use Rattle.std.specs.Prelude.{◌≡◌, ◌+◌, ◌-◌, ◌<◌, ◌≤◌, ◌↔◌, ◌⊎◌, [], ◌++◌, None, Some, length, take, drop, vec_len, vec_capacity, IfOk, OnOk, OnErr, IsOk, IsErr, IsTrue};
-ghost use Rattle.edge_io.specs.Faults.{HasCause, next_count};
-ghost use Rattle.edge_io.specs.Octets.{Fetches, Puts};
-ghost use Rattle.edge_io.specs.Memory.{MemorySource, MemorySink, IsListed, given_count};
+ghost use Rattle.edge_io.specs.FaultCounts.{HasCause, next_count};
+ghost use Rattle.edge_io.specs.KnownOctets.{Fetches, Puts};
+ghost use Rattle.edge_io.specs.MemoryEnds.{MemorySource, MemorySink, IsListed, given_count};
 
 use crate::{Failed, NoMemory, Sink, Source};
 use std::alloc::Global;

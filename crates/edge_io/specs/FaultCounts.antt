@@ -15,8 +15,3 @@ pub record HasCause {T E : Type 0} (before now : ℕ) (result : Result T E) : Ty
   pub later : before ≤ now
   pub kept : OnOk result (now ≡ before)
   pub failed : OnErr result (Rose before now)
-
--- The count never falls, and a call that succeeds leaves it unchanged.
-pub record RisesOnlyAtErr {T E : Type 0} (before now : ℕ) (result : Result T E) : Type 0 where
-  pub later : before ≤ now
-  pub kept : OnOk result (now ≡ before)

@@ -1,6 +1,6 @@
 -- The values of a source and of a sink in memory (this project's profile).
 use Rattle.std.specs.Prelude.{ℕ, List, length, min, Contains}
-use Rattle.edge_io.specs.Faults.{next_count}
+use Rattle.edge_io.specs.FaultCounts.{next_count}
 
 -- A source: the octets left, the most that one call returns, the numbers of the calls that fail,
 -- the number of calls so far, and of those that failed.

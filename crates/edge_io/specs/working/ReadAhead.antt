@@ -2,7 +2,7 @@
 use Rattle.std.specs.Prelude.{ℕ, List, slice_range}
 use Rattle.std.specs.Io.KnownBytes.{prepend_known}
 use Rattle.std.specs.declared.option.Option.{Option}
-use Rattle.edge_io.specs.declared.files.ahead.ReadAhead.{ReadAhead}
+use Rattle.edge_io.specs.declared.files.read_ahead.ReadAhead.{ReadAhead}
 
 -- The octets left: those in the buffer, and then those that the reader has left, if it has known
 -- octets.

@@ -1,7 +1,7 @@
 use Rattle.std.proofs.Common.{arith}
 use Rattle.std.proofs.lemmas.Result.{on_ok_weaker}
-use Rattle.edge_io.proofs.Buffered.{Keeps-Appends, written_past}
-use Rattle.edge_io.proofs.files.behind.WriteBehind.put.Goals as goal
+use Rattle.edge_io.proofs.Moves.{Keeps-Appends, written_past}
+use Rattle.edge_io.proofs.files.write_behind.WriteBehind.put.Goals as goal
 
 pub returns-then-piece-self-clause-octets : goal.returns-then-piece-self-clause-octets
 returns-then-piece-self-clause-octets g c =

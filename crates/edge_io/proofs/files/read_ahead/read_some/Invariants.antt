@@ -1,5 +1,5 @@
 use Rattle.std.specs.Io.KnownBytes.{Keeps}
-use Rattle.edge_io.proofs.files.ahead.read_some.Given as goal
+use Rattle.edge_io.proofs.files.read_ahead.read_some.Given as goal
 
 -- nothing has been read yet
 abbrev pub invariant-loop : goal.invariant-loop

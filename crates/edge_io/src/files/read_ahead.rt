@@ -1,17 +1,53 @@
-//! Reads through a buffer.
+//! Reads that fill a buffer, and a reader with a read buffer.
 ghost use Rattle.std.specs.Prelude.{◌≡◌, ◌≤◌, ◌↔◌, IsTrue, OnOk, OnErr, IsSome};
 ghost use Rattle.std.specs.Io.{ReadsAtMost};
 ghost use Rattle.std.specs.Io.KnownBytes.{Keeps, IsAtEnd, ReadConsumes};
-ghost use Rattle.edge_io.specs.Octets.{Fetches};
+ghost use Rattle.edge_io.specs.KnownOctets.{Fetches, Fills};
+ghost use Rattle.edge_io.specs.FaultCounts.{HasCause};
 ghost use Rattle.edge_io.specs.declared.files.TheConstants.{BUFFER_OCTETS};
 
 use super::BUFFER_OCTETS;
-use crate::Failed;
+use crate::{Failed, Source};
 use std::io;
 use std::io::{ErrorKind, Read};
 
 // Number of tries of a read that signals interrupt.
 const TRIES: u32 = 1_000;
+
+/// Fetches until the buffer is full or the source is at its end. Returns the number of octets read.
+#[inline]
+pub fn read_full<S: Source>(source: &mut S, buf: &mut [u8]) -> Result<usize, Failed>
+    ensures octets { Fills (S.left source.old) (S.left source.new) result buf.new }
+    ensures cause { HasCause (S.fault_count source.old) (S.fault_count source.new) result }
+{
+    if buf.is_empty() {
+        return Ok(0);
+    }
+    // Nearly every read takes one fetch, so that case has no loop.
+    let first = source.fetch(buf)?;
+    if first == 0 || first == buf.len() {
+        return Ok(first);
+    }
+    let more = read_rest(source, &mut buf[first..])?;
+    Ok(first + more)
+}
+
+// Does what `read_full` does, in a loop of fetches.
+#[cold]
+fn read_rest<S: Source>(source: &mut S, buf: &mut [u8]) -> Result<usize, Failed>
+    ensures octets { Fills (S.left source.old) (S.left source.new) result buf.new }
+    ensures cause { HasCause (S.fault_count source.old) (S.fault_count source.new) result }
+{
+    let mut done = 0;
+    while done < buf.len() {
+        let count = source.fetch(&mut buf[done..])?;
+        if count == 0 {
+            break;
+        }
+        done += count;
+    }
+    Ok(done)
+}
 
 /// A reader with a read buffer.
 #[derive(Drop)]
@@ -27,7 +63,7 @@ pub(super) struct ReadAhead<R> {
 }
 
 impl<R: Read> ReadAhead<R> {
-    ghost use Rattle.edge_io.specs.ReadAhead.{octets_left};
+    ghost use Rattle.edge_io.specs.working.ReadAhead.{octets_left};
 
     /// Returns a reader whose buffer is empty.
     pub(super) fn new(reader: R) -> ReadAhead<R>

@@ -1,6 +1,6 @@
 use Rattle.std.proofs.Common.{rules, ◌≡◌, ◌≤◌, ◌+◌, take, drop, length, ap, ◌∙◌, arith, take_all}
-use Rattle.edge_io.proofs.Buffered.{taken_ahead}
-use Rattle.edge_io.proofs.files.ahead.ReadAhead.fetch.Goals as goal
+use Rattle.edge_io.proofs.Moves.{taken_ahead}
+use Rattle.edge_io.proofs.files.read_ahead.ReadAhead.fetch.Goals as goal
 
 pub returns-clause-octets : goal.returns-clause-octets
 returns-clause-octets g c =

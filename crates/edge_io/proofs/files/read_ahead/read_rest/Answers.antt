@@ -1,6 +1,6 @@
 use Rattle.std.proofs.Common.{rules}
 use Rattle.edge_io.proofs.Moves.{filled}
-use Rattle.edge_io.proofs.fill.read_rest.Goals as goal
+use Rattle.edge_io.proofs.files.read_ahead.read_rest.Goals as goal
 
 pub loop-done-preserved : goal.loop-done-preserved
 loop-done-preserved g c = record {

@@ -1,8 +1,7 @@
 use Rattle.std.proofs.Common.{rules, ◌≡◌, ◌≤◌, ◌+◌, ◌++◌, take, drop, arith}
 use Rattle.std.proofs.lemmas.Result.{err_from_is_err_and}
-use Rattle.edge_io.proofs.Moves.{copied}
-use Rattle.edge_io.proofs.Buffered.{Keeps-Consumes, taken_ahead, end_ahead}
-use Rattle.edge_io.proofs.files.ahead.ReadAhead.fetch_some.Goals as goal
+use Rattle.edge_io.proofs.Moves.{copied, Keeps-Consumes, taken_ahead, end_ahead}
+use Rattle.edge_io.proofs.files.read_ahead.ReadAhead.fetch_some.Goals as goal
 
 pub returns-in_err-refill-clause-octets : goal.returns-in_err-refill-clause-octets
 returns-in_err-refill-clause-octets g c =

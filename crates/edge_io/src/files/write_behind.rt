@@ -23,11 +23,12 @@ pub(super) struct WriteBehind<W> {
 }
 
 impl<W: Write> WriteBehind<W> {
-    ghost use Rattle.edge_io.specs.WriteBehind.{octets_held};
+    ghost use Rattle.edge_io.specs.working.BufferedOctets.{octets_held};
 
     /// Returns a writer whose buffer is empty.
     pub(super) fn new(writer: W) -> WriteBehind<W>
-        ensures { Keeps (W.contents writer) (octets_held W.contents result) }
+        ensures writer { result.writer ≡ writer }
+        ensures empty { result.filled ≡ 0 }
     {
         WriteBehind {
             writer,

@@ -1,0 +1,3 @@
+pub mod FaultCounts
+pub mod ReadAhead
+pub mod BufferedOctets
