@@ -10,24 +10,23 @@ use Rattle.wire_base.specs.Options.{scale_of, cleaned}
 use Rattle.wire_base.specs.Segments.{Written, Segment}
 use Rattle.rule_book.specs.declared.rule.Rule.{Rule}
 use Rattle.rule_book.specs.declared.rule.Rule.TheVariants as rules
-use Rattle.norm_settings.specs.Settings.{PlainSettings}
-use Rattle.tcp_codec.specs.Write.{Fits, AreReadBack, segment_octets, header_octets, checksum_of}
-use Rattle.era_state.specs.Read.{came}
+use Rattle.norm_settings.specs.SettingValues.{PlainSettings}
+use Rattle.tcp_codec.specs.WrittenSegment.{Fits, AreReadBack, segment_octets, header_octets, checksum_of}
+use Rattle.era_state.specs.SegmentFields.{came}
 use Rattle.tcp_codec.specs.declared.header.Tcp.{Tcp}
 use Rattle.era_state.specs.Rules as era
-use Rattle.era_state.specs.Keeping.{bounds_of, offset_of, begins_below, passes_window, passes_end}
+use Rattle.era_state.specs.ForwardedOctets.{bounds_of, offset_of, begins_below, passes_window, passes_end}
 use Rattle.linked_table.proofs.Lists.{filter_none}
 use Rattle.tcp_norm.specs.Calls.{segment_in, key_of, read}
-use Rattle.tcp_norm.specs.Rows.{t_strip, is_live, holds_era, mended_by, differ, c_probe, clashes, bare_mends, header_mends, stream_mends}
-use Rattle.tcp_norm.specs.Emits.{packet_by, segment_sent, segment_anew, bare_segment, sum_mended, flags_cleared}
-use Rattle.tcp_norm.specs.Streams.{bare_rows, and_those, bare_tests, header_rows}
-use Rattle.tcp_norm.specs.Inwards.{bare_read}
-use Rattle.tcp_norm.specs.Heads.{seen}
-use Rattle.tcp_norm.specs.Views.{View}
-use Rattle.tcp_norm.proofs.StreamRules.{mended_parts}
+use Rattle.tcp_norm.specs.RuleRows.{t_strip, is_live, holds_era, mended_by, differ, c_probe, clashes, bare_mends, header_mends, stream_mends}
+use Rattle.tcp_norm.specs.EmittedPackets.{packet_by, segment_sent, segment_anew, bare_segment, sum_mended, flags_cleared}
+use Rattle.tcp_norm.specs.working.RewriteTests.{bare_rows, and_those, bare_tests, header_rows}
+use Rattle.tcp_norm.specs.working.InwardSegments.{bare_read}
+use Rattle.tcp_norm.specs.working.ReadHeads.{seen}
+use Rattle.tcp_norm.specs.RuleViews.{View}
+use Rattle.tcp_norm.proofs.SegmentRules.{mended_parts, flags_stay, header_are, header_mended, header_stays, those_are}
 use Rattle.tcp_norm.proofs.StreamFrames.{none_held}
 use Rattle.std.specs.Prelude.{filter}
-use Rattle.tcp_norm.proofs.HeaderRules.{flags_stay, header_are, header_mended, header_stays, those_are}
 use Rattle.ip_rules.proofs.Lists.{none_named}
 
 -- An inbound datagram and what is sent of it.

@@ -4,8 +4,8 @@ use Rattle.std.proofs.lemmas.List.Elements.{filter-append}
 use Rattle.std.specs.List.{AllByRecursion}
 use Rattle.wire_base.specs.Segments.{Written}
 use Rattle.wire_base.specs.declared.address.FlowKey.{FlowKey}
-use Rattle.norm_settings.specs.Settings.{PlainSettings}
-use Rattle.linked_table.specs.Table.{Entry}
+use Rattle.norm_settings.specs.SettingValues.{PlainSettings}
+use Rattle.linked_table.specs.EntryTable.{Entry}
 use Rattle.retain_store.specs.Maps.{Store}
 use Rattle.ip_rules.specs.Datagrams.{Datagram, Packet, goes_in}
 use Rattle.linked_table.proofs.Lists.{all_weaker, all_join, filter_all, filter_under}
@@ -14,17 +14,18 @@ use Rattle.rule_book.specs.declared.entry.Ended.{Ended}
 use Rattle.rule_book.specs.declared.entry.Reason.{Reason}
 use Rattle.era_state.specs.declared.era.Era.{Era}
 use Rattle.era_state.specs.Eras as era
-use Rattle.tcp_norm.specs.declared.flow.Flow.{Flow}
+use Rattle.tcp_norm.specs.declared.key.Flow.{Flow}
 use Rattle.tcp_norm.specs.declared.key.EraKey.{EraKey}
 use Rattle.tcp_norm.specs.declared.state.TcpNorm.{TcpNorm}
 use Rattle.tcp_norm.specs.declared.step.Step.{Step}
 use Rattle.tcp_norm.specs.Calls.{Call, expiry, datagram, Outcome, Alive, read, is_era, is_written, segments, eras, written_by, touched_by, ended_by, begins_by, asks_by, time_of, alive_at, key_of, without, numbers_of, is_among, names}
-use Rattle.tcp_norm.specs.Standing.{HoldsFor, IsFor, IsTimely, StandsFor, EntryStands, alive_in, Holds, Begins, ChangesTables}
-use Rattle.tcp_norm.specs.Steps.{listed, one, Does, number_ended, place_of}
-use Rattle.tcp_norm.specs.Held.{kept_at}
+use Rattle.tcp_norm.specs.TableAndStore.{HoldsFor, IsFor, IsTimely, StandsFor, EntryStands, alive_in}
+use Rattle.tcp_norm.specs.working.TableChanges.{Holds, Begins, ChangesTables}
+use Rattle.tcp_norm.specs.working.EraSteps.{listed, one, Does, number_ended, place_of}
+use Rattle.tcp_norm.specs.HeldOctets.{kept_at}
 use Rattle.tcp_norm.specs.declared.step.Place.{Place}
-use Rattle.tcp_norm.specs.Colds.{IsUnheard}
-use Rattle.tcp_norm.specs.Laws.{Leaves, of_era}
+use Rattle.tcp_norm.specs.working.ColdDatagrams.{IsUnheard}
+use Rattle.tcp_norm.specs.CallLaws.{Leaves, of_era}
 use Rattle.tcp_norm.proofs.Lists.{all_unmap, pairs_push, everywhere, all_filter, pairs_passed, number_other, number_same}
 use Rattle.tcp_norm.proofs.EraTable.{still, others_before, none_left}
 

@@ -10,16 +10,16 @@ use Rattle.wire_base.specs.declared.address.FlowKey.{FlowKey}
 use Rattle.rule_book.specs.declared.rule.Rule.{Rule}
 use Rattle.rule_book.specs.declared.entry.Reason.{Reason}
 use Rattle.rule_book.specs.declared.entry.Ended.{Ended}
-use Rattle.norm_settings.specs.Settings.{PlainSettings}
+use Rattle.norm_settings.specs.SettingValues.{PlainSettings}
 use Rattle.ip_rules.specs.Datagrams.{Datagram}
-use Rattle.linked_table.specs.Table.{Pairwise}
+use Rattle.linked_table.specs.EntryTable.{Pairwise}
 use Rattle.tcp_norm.specs.Calls.{Call, datagram, Outcome, Alive, eras, live, is_key, is_era, is_written, key_of, segment_in, ended_by, touched_by, begins_by, alive_at, numbers_of, is_among, expiry, begun_in, time_of}
-use Rattle.tcp_norm.specs.Held.{evictable, held_in}
-use Rattle.tcp_norm.specs.Views.{View, view_of, number_of, head_of}
-use Rattle.tcp_norm.specs.Rows.{begins, begins_cold, reopens, dropped_by, mended_by}
+use Rattle.tcp_norm.specs.HeldOctets.{evictable, held_in}
+use Rattle.tcp_norm.specs.RuleViews.{View, view_of, number_of, head_of}
+use Rattle.tcp_norm.specs.RuleRows.{begins, begins_cold, reopens, dropped_by, mended_by}
 use Rattle.tcp_norm.specs.Outcomes.{ends, begun_with, ended_with, outcome_by, outcome_at, call_of, expiry_of}
-use Rattle.tcp_norm.specs.Steps.{one}
-use Rattle.tcp_norm.specs.Lives.{begun_for, writes_in, last_begun, has_ended, made_of}
+use Rattle.tcp_norm.specs.working.EraSteps.{one}
+use Rattle.tcp_norm.specs.LiveEras.{begun_for, writes_in, last_begun, has_ended, made_of}
 use Rattle.tcp_norm.proofs.LiveEras.{key_is, key_same, Effect, Lasts, live_last, last_live, all_given}
 use Rattle.tcp_norm.proofs.Lists.{all_map, some_same, all_filter, among_is, number_same}
 use Rattle.tcp_norm.proofs.EraWrites.{fixed_or_passed}

@@ -6,9 +6,9 @@ use Rattle.wire_base.specs.Tcp as tcp
 use Rattle.wire_base.specs.Segments.{Written}
 use Rattle.wire_base.specs.declared.address.FlowKey.{FlowKey}
 use Rattle.rule_book.specs.declared.rule.Rule.TheVariants as rules
-use Rattle.norm_settings.specs.Settings.{PlainSettings}
+use Rattle.norm_settings.specs.SettingValues.{PlainSettings}
 use Rattle.era_state.specs.declared.segment.Seg.{Seg}
-use Rattle.era_state.specs.Read.{came, sent}
+use Rattle.era_state.specs.SegmentFields.{came, sent}
 use Rattle.era_state.specs.Rules.{t_rst, t_state, t_syn, is_of_stream, follows, is_awaited, reopens_inward, reopens_outward, precedes}
 use Rattle.era_state.specs.Offsets.{number_before, off, natural}
 use Rattle.era_state.specs.Quantities.{base_at, acked, next, iss, out, base_of, octets_of, first}
@@ -20,26 +20,25 @@ use Rattle.reset_probe.specs.Rules.{era_probe, probe_with, awaited_number}
 use Rattle.ip_rules.specs.Datagrams.{Datagram, goes_in}
 use Rattle.rule_book.specs.declared.entry.Reason.TheVariants as reasons
 use Rattle.linked_table.specs.declared.table.Slot.{Slot}
-use Rattle.linked_table.specs.Table.{Entry, IsIn, HasNone, Wherever}
+use Rattle.linked_table.specs.EntryTable.{Entry, IsIn, HasNone, Wherever}
 use Rattle.retain_store.specs.Maps.{Store}
 use Rattle.linked_table.proofs.Entries.{split_at, wherever}
-use Rattle.era_state.specs.Marks.{get_at}
+use Rattle.era_state.specs.SegmentMarks.{get_at}
 use Rattle.cold_start.specs.Rules.{is_asked, is_call, t_cold, cold_probe_of}
 use Rattle.tcp_norm.specs.Calls.{segment_in, Call, segments, eras, key_of}
-use Rattle.tcp_norm.specs.Held.{held_of, kept_at}
-use Rattle.tcp_norm.specs.Views.{View, view_of, number_of, segments_of}
-use Rattle.tcp_norm.specs.Rows.{is_live, holds_era, dropped_by, exceeds, wanted_of, reopens, t_full}
-use Rattle.tcp_norm.specs.declared.flow.Flow.{Flow}
+use Rattle.tcp_norm.specs.HeldOctets.{held_of, kept_at}
+use Rattle.tcp_norm.specs.RuleViews.{View, view_of, number_of, segments_of}
+use Rattle.tcp_norm.specs.RuleRows.{is_live, holds_era, dropped_by, exceeds, wanted_of, reopens, t_full}
+use Rattle.tcp_norm.specs.declared.key.Flow.{Flow}
 use Rattle.tcp_norm.specs.declared.key.EraKey.{EraKey}
 use Rattle.tcp_norm.specs.declared.step.Place.{Place}
-use Rattle.tcp_norm.specs.Steps.{IsStep, began, evicted, place_of, place_in}
-use Rattle.tcp_norm.specs.Standing.{HoldsFor}
-use Rattle.tcp_norm.specs.Writes.{BringsNone}
-use Rattle.tcp_norm.specs.Colds.{are_of_call}
-use Rattle.tcp_norm.specs.Emits.{flags_cleared}
-use Rattle.tcp_norm.proofs.HeaderRules.{flags_stay}
+use Rattle.tcp_norm.specs.working.EraSteps.{IsStep, began, evicted, place_of, place_in}
+use Rattle.tcp_norm.specs.TableAndStore.{HoldsFor}
+use Rattle.tcp_norm.specs.working.EmptySegments.{BringsNone}
+use Rattle.tcp_norm.specs.working.ColdDatagrams.{are_of_call}
+use Rattle.tcp_norm.specs.EmittedPackets.{flags_cleared}
+use Rattle.tcp_norm.proofs.SegmentRules.{flags_stay, dropped_is}
 use Rattle.tcp_norm.proofs.BareSegments.{Comes}
-use Rattle.tcp_norm.proofs.StreamRules.{dropped_is}
 use Rattle.tcp_norm.proofs.LiveEras.{live_here, live_nowhere}
 
 -- The rules of an inbound RST of a connection that has a live era, and the calls with it.

@@ -5,34 +5,34 @@ use Rattle.std.specs.Option.{option_or}
 use Rattle.std.proofs.lemmas.Bool.{false≢true, false_from_ne_true, true_from_ne_false}
 use Rattle.wire_base.specs.Tcp as tcp
 use Rattle.wire_base.specs.Segments.{Written}
-use Rattle.tcp_codec.specs.Cleaning.{CleansOctets}
-use Rattle.tcp_codec.specs.Mending.{MendedSayTheSame}
-use Rattle.tcp_codec.specs.Write.{AreReadBack}
+use Rattle.tcp_codec.specs.CleanedOptions.{CleansOctets}
+use Rattle.tcp_codec.specs.MendedSegment.{MendedSayTheSame}
+use Rattle.tcp_codec.specs.WrittenSegment.{AreReadBack}
 use Rattle.rule_book.specs.declared.rule.Rule.{Rule}
 use Rattle.rule_book.specs.Rules.{era_rows}
-use Rattle.norm_settings.specs.Settings.{PlainSettings}
+use Rattle.norm_settings.specs.SettingValues.{PlainSettings}
 use Rattle.era_state.specs.Offsets.{OffsetsAreRead}
 use Rattle.era_state.specs.Quantities.{base_of}
 use Rattle.era_state.specs.States.{state_of, is_acknowledged}
 use Rattle.era_state.specs.Rules as era
-use Rattle.era_state.specs.Silence.{IsSilent}
+use Rattle.era_state.specs.SilentSegments.{IsSilent}
 use Rattle.era_state.specs.Emission.{AreEmitted}
-use Rattle.era_state.specs.Emitted.{WrittenRemains, EmittedJoins}
+use Rattle.era_state.specs.EmissionLaws.{WrittenRemains, EmittedJoins}
 use Rattle.reset_probe.specs.Rules.{era_probe}
 use Rattle.cold_start.specs.Rules.{is_asked}
 use Rattle.ip_rules.specs.Datagrams.{Datagram, Packet, goes_in}
 use Rattle.linked_table.proofs.Lists.{all_weaker}
 use Rattle.ip_rules.proofs.Lists.{none_found}
 use Rattle.tcp_norm.specs.Calls.{Call, expiry, datagram, Alive, read, segment_in, key_of, is_era, written_by, segments, live, begun_in, touched_by, numbers_of}
-use Rattle.tcp_norm.specs.Views.{View, view_of, number_of, segments_of}
-use Rattle.tcp_norm.specs.Rows.{is_live, t_full, reopens, begins, holds_era, dropped_by, mended_by}
-use Rattle.tcp_norm.specs.Emits.{packet_by, probe_packets, packets_passed}
-use Rattle.tcp_norm.specs.Inwards.{bare_read}
+use Rattle.tcp_norm.specs.RuleViews.{View, view_of, number_of, segments_of}
+use Rattle.tcp_norm.specs.RuleRows.{is_live, t_full, reopens, begins, holds_era, dropped_by, mended_by}
+use Rattle.tcp_norm.specs.EmittedPackets.{packet_by, probe_packets, packets_passed}
+use Rattle.tcp_norm.specs.working.InwardSegments.{bare_read}
 use Rattle.tcp_norm.specs.Outcomes.{begun_with, outcome_by, call_of}
-use Rattle.tcp_norm.specs.Lives.{AreMade, last_begun, writes_in, made_of}
-use Rattle.tcp_norm.specs.Segments.{IsSegment, AsksSegment, CallsAreEmitted}
-use Rattle.tcp_norm.proofs.Lists.{all_map, some_same, among_is}
-use Rattle.tcp_norm.proofs.StreamRules.{of_stream, stream_begins_none}
+use Rattle.tcp_norm.specs.LiveEras.{AreMade, last_begun, writes_in, made_of}
+use Rattle.tcp_norm.specs.SegmentPackets.{IsSegment, AsksSegment, CallsAreEmitted}
+use Rattle.tcp_norm.proofs.Lists.{all_map, some_same, among_is, some_none}
+use Rattle.tcp_norm.proofs.SegmentRules.{of_stream, stream_begins_none}
 use Rattle.tcp_norm.proofs.InboundSegments.{asks, step_asked, packets_begun, packets_live, packets_reset, early_now, stream_is}
 use Rattle.tcp_norm.proofs.SynsAndResets.{called_marked, cold_stream, call_stream, reset_stream, syn_marked, rst_marked, probes_silent}
 use Rattle.tcp_norm.proofs.LiveEras.{Lasts, Effect}
@@ -58,9 +58,6 @@ pub data Enters (v : View) (w : Written) (ws : List Written) : Type 0 where
 -- what is written to one side
 abbrev pub written : Datagram → List Packet → List Written
 written d packets = map (λ p. read (goes_in d.side) p.octets) packets
-
-pub some_none : {n : ℕ} → None ≡ Some n → ⊥
-some_none e = cc
 
 -- one that goes outwards
 passes_out : Below → (settings : PlainSettings) (v : View) (d : Datagram) (ws : List Written) → IsSegment settings d → goes_in d.side ≡ false

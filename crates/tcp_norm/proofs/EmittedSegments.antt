@@ -6,40 +6,39 @@ use Rattle.std.proofs.lemmas.Bool.{false≢true, and_parts}
 use Rattle.std.proofs.lemmas.Bool.Decides.{nat_tests}
 use Rattle.wire_base.specs.Tcp as tcp
 use Rattle.wire_base.specs.Segments.{Written}
-use Rattle.tcp_codec.specs.Cleaning.{CleansOctets}
-use Rattle.tcp_codec.specs.Mending.{MendedSayTheSame}
-use Rattle.tcp_codec.specs.Write.{AreReadBack, segment_octets}
+use Rattle.tcp_codec.specs.CleanedOptions.{CleansOctets}
+use Rattle.tcp_codec.specs.MendedSegment.{MendedSayTheSame}
+use Rattle.tcp_codec.specs.WrittenSegment.{AreReadBack, segment_octets}
 use Rattle.rule_book.specs.declared.rule.Rule.{Rule}
-use Rattle.norm_settings.specs.Settings.{PlainSettings}
-use Rattle.era_state.specs.Marks.{is_inbound_syn, fixes}
+use Rattle.norm_settings.specs.SettingValues.{PlainSettings}
+use Rattle.era_state.specs.SegmentMarks.{is_inbound_syn, fixes}
 use Rattle.era_state.specs.Quantities.{base_of, acked, end_of, out_fin, is_opened, is_over, base_at, edge, top}
 use Rattle.era_state.specs.States.{State, offered, warm, closed, state_of, state_at, state_with, is_called, is_closed, is_acknowledged}
 use Rattle.era_state.specs.Rules as era
-use Rattle.era_state.specs.Silence.{IsSilent}
+use Rattle.era_state.specs.SilentSegments.{IsSilent}
 use Rattle.era_state.specs.Emission.{IsOutward, IsBare, AreEmitted, IsKeptFrame}
-use Rattle.era_state.specs.Emitted.{WrittenRemains}
+use Rattle.era_state.specs.EmissionLaws.{WrittenRemains}
 use Rattle.era_state.proofs.Quantities.{base_push}
 use Rattle.ip_rules.specs.Datagrams.{Datagram, goes_in}
 use Rattle.era_state.specs.Offsets.{OffsetsAreRead, number_in, whole}
-use Rattle.era_state.specs.declared.interval.Interval.{Interval}
-use Rattle.era_state.specs.Keeping.{bounds_of, offset_of, keeps_fin}
-use Rattle.era_state.specs.Intervals.{KeptOf}
+use Rattle.era_state.specs.declared.offset.Interval.{Interval}
+use Rattle.era_state.specs.ForwardedOctets.{bounds_of, offset_of, keeps_fin}
+use Rattle.era_state.specs.KeptIntervals.{KeptOf}
 use Rattle.era_state.proofs.Frames.{EndLies}
 use Rattle.era_state.proofs.EmittedSegments.{bounded}
 use Rattle.tcp_norm.specs.Calls.{read, segment_in}
-use Rattle.tcp_norm.specs.Views.{View}
-use Rattle.tcp_norm.specs.Rows.{is_live, c_probe, mended_by, pseudo_of, clashes, low_of, high_of, own_octet, octet_sent, header_mends, holds_era, t_strip}
-use Rattle.tcp_norm.specs.Emits.{packet_by, segment_sent, segment_anew, sum_mended}
-use Rattle.tcp_norm.specs.Inwards.{bare_read}
-use Rattle.tcp_norm.specs.Segments.{IsSegment}
-use Rattle.tcp_norm.specs.Laws.{WritesFrame}
-use Rattle.tcp_norm.proofs.StreamRules.{of_stream, stream_mended}
+use Rattle.tcp_norm.specs.RuleViews.{View}
+use Rattle.tcp_norm.specs.RuleRows.{is_live, c_probe, mended_by, pseudo_of, clashes, low_of, high_of, own_octet, octet_sent, header_mends, holds_era, t_strip}
+use Rattle.tcp_norm.specs.EmittedPackets.{packet_by, segment_sent, segment_anew, sum_mended}
+use Rattle.tcp_norm.specs.working.InwardSegments.{bare_read}
+use Rattle.tcp_norm.specs.SegmentPackets.{IsSegment}
+use Rattle.tcp_norm.specs.CallLaws.{WritesFrame}
+use Rattle.tcp_norm.proofs.SegmentRules.{of_stream, stream_mended, flags_stay, header_mended, those_few}
 use Rattle.tcp_norm.proofs.BareSegments.{bare_mended, bare_is_read, bare_anew}
 use Rattle.tcp_norm.proofs.Packets.{bare_fits_here, bits, stream_fits_here, number_fits}
 use Rattle.tcp_norm.proofs.StreamFrames.{writes_frame}
-use Rattle.tcp_norm.specs.Streams.{bare_tests, stream_tests}
+use Rattle.tcp_norm.specs.working.RewriteTests.{bare_tests, stream_tests}
 use Rattle.std.proofs.lemmas.List.Sums.{count_by-le-length, length-filter}
-use Rattle.tcp_norm.proofs.HeaderRules.{flags_stay, header_mended, those_few}
 
 -- What is emitted of an outbound datagram, and of an inbound one that brings no octet of the
 -- stream.

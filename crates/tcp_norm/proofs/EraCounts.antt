@@ -3,24 +3,25 @@ use Rattle.std.proofs.Common.{◌≢◌, List, [], ◌∷◌, Some, ap, ◌∙�
 use Rattle.std.proofs.lemmas.Bool.Decides.{nat_tests}
 use Rattle.std.specs.List.{find, AllByRecursion}
 use Rattle.std.proofs.lemmas.List.Elements.{recursion_from_All}
-use Rattle.norm_settings.specs.Settings.{PlainSettings}
+use Rattle.norm_settings.specs.SettingValues.{PlainSettings}
 use Rattle.wire_base.specs.declared.address.FlowKey.{FlowKey}
 use Rattle.ip_rules.specs.Datagrams.{Datagram}
 use Rattle.wire_base.specs.Segments.{Written}
 use Rattle.linked_table.specs.declared.table.Slot.{Slot}
-use Rattle.linked_table.specs.Table.{Entry, Wherever, first_slot, Pairwise}
+use Rattle.linked_table.specs.EntryTable.{Entry, Wherever, first_slot, Pairwise}
 use Rattle.retain_store.specs.Maps.{Store}
 use Rattle.linked_table.proofs.Lists.{all_weaker, filter_all, filter_none}
 use Rattle.tcp_norm.specs.Calls.{Call, Alive, eras, expiry, datagram, live, is_key, is_among, ended_by, begun_in, without, key_of, segments, numbers_of}
-use Rattle.tcp_norm.specs.Lives.{AreMade, IsLast, LivesAre, made_of}
-use Rattle.tcp_norm.specs.Held.{held_in}
-use Rattle.tcp_norm.specs.Views.{number_of, head_of, view_of, idle_at}
+use Rattle.tcp_norm.specs.LiveEras.{AreMade, IsLast, LivesAre, made_of}
+use Rattle.tcp_norm.specs.HeldOctets.{held_in}
+use Rattle.tcp_norm.specs.RuleViews.{number_of, head_of, view_of, idle_at}
 use Rattle.tcp_norm.specs.Outcomes.{call_of, expiry_of}
-use Rattle.tcp_norm.specs.Steps.{one, first_old}
-use Rattle.tcp_norm.specs.declared.flow.Flow.{Flow}
+use Rattle.tcp_norm.specs.working.EraSteps.{one, first_old}
+use Rattle.tcp_norm.specs.declared.key.Flow.{Flow}
 use Rattle.tcp_norm.specs.declared.key.EraKey.{EraKey}
 use Rattle.tcp_norm.specs.declared.state.TcpNorm.{TcpNorm}
-use Rattle.tcp_norm.specs.Standing.{HoldsFor, IsFor, IsTimely, StandsFor, Holds, ChangesTables}
+use Rattle.tcp_norm.specs.TableAndStore.{HoldsFor, IsFor, IsTimely, StandsFor}
+use Rattle.tcp_norm.specs.working.TableChanges.{Holds, ChangesTables}
 use Rattle.tcp_norm.proofs.Lists.{fewer, pairs_weaker, found_is, number_same, number_other, everywhere, some_same}
 use Rattle.tcp_norm.proofs.LiveEras.{Lasts, lasts_none, lasts_next, live_last, last_live, all_given}
 use Rattle.tcp_norm.proofs.CallKinds.{effect_made, Moves, Kind, stays, goes_on, ends_own, begins_beside, evicts, reopens_one, kind}

@@ -7,23 +7,24 @@ use Rattle.std.specs.List.{AllByRecursion, filter, list_any, count_by, range_wit
 use Rattle.std.proofs.lemmas.List.Sums.{sum_by-cons}
 use Rattle.wire_base.specs.Segments.{Written}
 use Rattle.linked_table.specs.declared.table.Slot.{Slot}
-use Rattle.linked_table.specs.Table.{Entry, SplitAt, with_value, revalued, Pairwise, IsNotIn, IsIn, Wherever}
+use Rattle.linked_table.specs.EntryTable.{Entry, SplitAt, with_value, revalued, Pairwise, IsNotIn, IsIn, Wherever}
 use Rattle.linked_table.proofs.Entries.{left_out, valued, split_at, wherever}
-use Rattle.linked_table.specs.Table as table
+use Rattle.linked_table.specs.EntryTable as table
 use Rattle.retain_store.specs.Maps.{Store, chain_of, octet_at, ChangesOnly}
 use Rattle.era_state.specs.Eras as era
 use Rattle.linked_table.proofs.Lists.{all_before, all_after, all_join, all_weaker, pairs_before, pairs_after, filter_rest}
 use Rattle.wire_base.specs.declared.address.FlowKey.{FlowKey}
 use Rattle.era_state.specs.Quantities.{base_at, top}
-use Rattle.norm_settings.specs.Settings.{PlainSettings}
+use Rattle.norm_settings.specs.SettingValues.{PlainSettings}
 use Rattle.retain_store.proofs.Blocks.{others_same}
-use Rattle.tcp_norm.specs.declared.flow.Flow.{Flow}
+use Rattle.tcp_norm.specs.declared.key.Flow.{Flow}
 use Rattle.tcp_norm.specs.declared.key.EraKey.{EraKey}
 use Rattle.tcp_norm.specs.Calls.{Alive, without, is_among}
-use Rattle.tcp_norm.specs.Held.{held_of, kept_at, has_block}
-use Rattle.tcp_norm.specs.Standing.{IsFree, HoldsFor, EntryStands, AreGiven, alive_in, IsFor, ChangesTables}
-use Rattle.tcp_norm.specs.Chains.{Keeps}
-use Rattle.tcp_norm.specs.Spare.{written_back}
+use Rattle.tcp_norm.specs.HeldOctets.{held_of, kept_at, has_block}
+use Rattle.tcp_norm.specs.TableAndStore.{IsFree, HoldsFor, EntryStands, AreGiven, alive_in, IsFor}
+use Rattle.tcp_norm.specs.working.TableChanges.{ChangesTables}
+use Rattle.tcp_norm.specs.KeptChains.{Keeps}
+use Rattle.tcp_norm.specs.working.SpareSlots.{written_back}
 use Rattle.tcp_norm.specs.declared.state.TcpNorm.{TcpNorm}
 use Rattle.tcp_norm.proofs.Lists.{all_unmap, pairs_rest, pairs_push, filter_only, everywhere, number_other, number_same}
 

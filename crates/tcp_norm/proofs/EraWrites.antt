@@ -6,8 +6,8 @@ use Rattle.std.proofs.lemmas.List.Elements.{recursion_from_All, All-from_recursi
 use Rattle.std.specs.Option.{option_or}
 use Rattle.std.proofs.lemmas.List.{append-nil, length-take-le, map-append}
 use Rattle.linked_table.specs.declared.table.Slot.{Slot}
-use Rattle.linked_table.specs.Table.{Entry, IsIn, Wherever, with_value, revalued, SplitAt}
-use Rattle.linked_table.specs.Table as table
+use Rattle.linked_table.specs.EntryTable.{Entry, IsIn, Wherever, with_value, revalued, SplitAt}
+use Rattle.linked_table.specs.EntryTable as table
 use Rattle.era_state.specs.declared.era.Era.{Era}
 use Rattle.era_state.specs.Eras.{acked_in}
 use Rattle.linked_table.proofs.Lists.{all_weaker, all_join, all_after}
@@ -17,38 +17,37 @@ use Rattle.era_state.specs.Eras as era
 use Rattle.linked_table.proofs.Entries.{split_at, wherever}
 use Rattle.rule_book.specs.declared.rule.Rule.{Rule}
 use Rattle.rule_book.specs.declared.rule.Rule.TheVariants as rules
-use Rattle.norm_settings.specs.Settings.{PlainSettings}
-use Rattle.era_state.specs.declared.interval.Interval.{Interval}
-use Rattle.era_state.specs.Intervals.{KeptOf}
+use Rattle.norm_settings.specs.SettingValues.{PlainSettings}
+use Rattle.era_state.specs.declared.offset.Interval.{Interval}
+use Rattle.era_state.specs.KeptIntervals.{KeptOf}
 use Rattle.ip_rules.specs.Datagrams.{Datagram, Packet, goes_in}
-use Rattle.era_state.specs.Laws.{FirstStays, AckedNeverFalls}
+use Rattle.era_state.specs.QuantityLaws.{FirstStays, AckedNeverFalls}
 use Rattle.retain_store.proofs.Blocks.{others_same}
-use Rattle.tcp_norm.specs.declared.flow.Flow.{Flow}
+use Rattle.tcp_norm.specs.declared.key.Flow.{Flow}
 use Rattle.tcp_norm.specs.declared.key.EraKey.{EraKey}
-use Rattle.tcp_norm.specs.Near.{IsNear, AreNear}
-use Rattle.tcp_norm.specs.Spare.{written_back}
+use Rattle.tcp_norm.specs.working.EraBounds.{IsNear, AreNear}
+use Rattle.tcp_norm.specs.working.SpareSlots.{written_back}
 use Rattle.tcp_norm.specs.Calls.{Alive, segments, without, datagram, Outcome, read, segment_in, key_of, is_written, alive_at, Call, eras, begins_by, written_by}
-use Rattle.tcp_norm.specs.Held.{held_of}
-use Rattle.tcp_norm.specs.Rulings.{IsHeld, taken, Extends, Touches}
-use Rattle.tcp_norm.specs.Live.{Live}
-use Rattle.tcp_norm.specs.Standing.{HoldsFor, alive_in, IsFor, StandsFor}
-use Rattle.tcp_norm.specs.Chains.{Keeps}
-use Rattle.tcp_norm.specs.Views.{View}
-use Rattle.tcp_norm.specs.Writes.{WritesIn}
-use Rattle.tcp_norm.specs.Rows.{is_live, t_quota, t_room, t_full, clashes, dropped_by, noted}
-use Rattle.tcp_norm.specs.Emits.{packet_by, packets_passed}
+use Rattle.tcp_norm.specs.HeldOctets.{held_of}
+use Rattle.tcp_norm.specs.working.Rulings.{IsHeld, taken, Extends, Touches}
+use Rattle.tcp_norm.specs.working.LiveSlots.{Live}
+use Rattle.tcp_norm.specs.TableAndStore.{HoldsFor, alive_in, IsFor, StandsFor}
+use Rattle.tcp_norm.specs.KeptChains.{Keeps}
+use Rattle.tcp_norm.specs.RuleViews.{View}
+use Rattle.tcp_norm.specs.EraWrites.{WritesIn}
+use Rattle.tcp_norm.specs.RuleRows.{is_live, t_quota, t_room, t_full, clashes, dropped_by, noted}
+use Rattle.tcp_norm.specs.EmittedPackets.{packet_by, packets_passed}
 use Rattle.tcp_norm.specs.Outcomes.{outcome_at, outcome_by, verdict_of}
-use Rattle.tcp_norm.specs.Streams.{stream_rows}
+use Rattle.tcp_norm.specs.working.RewriteTests.{stream_rows}
 use Rattle.tcp_norm.specs.declared.state.TcpNorm.{TcpNorm}
-use Rattle.tcp_norm.specs.Resets.{WritesAll}
-use Rattle.tcp_norm.specs.declared.ruling.Taking.{Taking}
-use Rattle.tcp_norm.specs.Steps.{Does, continued_in}
+use Rattle.tcp_norm.specs.working.LiveWrites.{WritesAll}
+use Rattle.tcp_norm.specs.declared.step.Taking.{Taking}
+use Rattle.tcp_norm.specs.working.EraSteps.{Does, continued_in}
 use Rattle.tcp_norm.proofs.Lists.{all_filter, number_other, number_same}
 use Rattle.tcp_norm.proofs.EraTable.{take_out, change, add, put_touch, none_left, Other, at_slot, none_changed, same_value}
-use Rattle.tcp_norm.proofs.StreamRules.{OfStream, stream_dropped, stream_mended, stream_begins_none, stream_ends_none}
+use Rattle.tcp_norm.proofs.SegmentRules.{OfStream, stream_dropped, stream_mended, stream_begins_none, stream_ends_none, header_mended}
 use Rattle.tcp_norm.proofs.KeptOctets.{count_is, keeps_same}
 use Rattle.tcp_norm.proofs.CallEffects.{lives_touch, stands_next, own_by, others_by}
-use Rattle.tcp_norm.proofs.HeaderRules.{header_mended}
 
 -- The numbers kept of each era stay in their bounds, even where a filter leaves some eras out.
 

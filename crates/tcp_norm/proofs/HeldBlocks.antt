@@ -7,18 +7,18 @@ use Rattle.std.proofs.lemmas.Bool.Decides.{nat_tests}
 use Rattle.wire_base.specs.Tcp as tcp
 use Rattle.wire_base.specs.Segments.{Written}
 use Rattle.era_state.specs.Offsets.{off, natural, nat_of, number_in, OffsetsAreRead, PlacesAreRead}
-use Rattle.era_state.specs.Marks.{octet_at, get_at}
+use Rattle.era_state.specs.SegmentMarks.{octet_at, get_at}
 use Rattle.era_state.specs.Quantities.{base_of, base_at, acked, first, top}
-use Rattle.era_state.specs.Keeping.{Bounds, bounds_of, offset_of, low, high, frame_sequence, frame_sequence_of}
-use Rattle.era_state.specs.Laws.{FirstStays, AckedNeverFalls, IntervalsFit}
+use Rattle.era_state.specs.ForwardedOctets.{Bounds, bounds_of, offset_of, low, high, frame_sequence, frame_sequence_of}
+use Rattle.era_state.specs.QuantityLaws.{FirstStays, AckedNeverFalls, IntervalsFit}
 use Rattle.era_state.specs.Emission.{AreEmitted}
-use Rattle.era_state.specs.Emitted.{EmittedJoins, UnbasedHasNoOctet}
-use Rattle.tcp_codec.specs.Cleaning.{CleansOctets}
-use Rattle.tcp_codec.specs.Write.{AreReadBack}
+use Rattle.era_state.specs.EmissionLaws.{EmittedJoins, UnbasedHasNoOctet}
+use Rattle.tcp_codec.specs.CleanedOptions.{CleansOctets}
+use Rattle.tcp_codec.specs.WrittenSegment.{AreReadBack}
 use Rattle.retain_store.specs.Maps.{touched}
-use Rattle.tcp_norm.specs.Held.{kept_at, has_block, held_of, missing_of}
-use Rattle.tcp_norm.specs.Rows.{low_of, high_of, wanted_of}
-use Rattle.tcp_norm.specs.Writes.{BringsNone}
+use Rattle.tcp_norm.specs.HeldOctets.{kept_at, has_block, held_of, missing_of}
+use Rattle.tcp_norm.specs.RuleRows.{low_of, high_of, wanted_of}
+use Rattle.tcp_norm.specs.working.EmptySegments.{BringsNone}
 use Rattle.tcp_norm.proofs.KeptOctets.{first_stays_of, first_is_below, got_inside}
 use Rattle.tcp_norm.proofs.StreamFrames.{Own}
 use Rattle.tcp_norm.proofs.Lists.{among, among_range, count_of, count_within, passes_in, some_of}

@@ -5,13 +5,13 @@ use Rattle.std.specs.Option.{option_or}
 use Rattle.std.proofs.lemmas.Bool.{and_parts}
 use Rattle.wire_base.specs.Tcp as tcp
 use Rattle.wire_base.specs.Segments.{Written, Segment}
-use Rattle.era_state.specs.Keeping.{frame_sequence_of}
+use Rattle.era_state.specs.ForwardedOctets.{frame_sequence_of}
 use Rattle.ip_rules.specs.Datagrams.{Datagram, Packet, goes_in, IsDatagram, raised, head_at, head_sent, anew, frames_of}
 use Rattle.wire_base.specs.Options.{cleaned}
-use Rattle.ip_rules.specs.declared.judged.IpPacket.{IpPacket}
+use Rattle.ip_rules.specs.declared.rows.IpPacket.{IpPacket}
 use Rattle.rule_book.specs.declared.rule.Rule.{Rule}
 use Rattle.rule_book.specs.declared.rule.Rule.TheVariants as rules
-use Rattle.norm_settings.specs.Settings.{PlainSettings}
+use Rattle.norm_settings.specs.SettingValues.{PlainSettings}
 use Rattle.era_state.specs.States.{state_of, is_acknowledged, State, called, offered, warm, closed}
 use Rattle.era_state.specs.Rules as era
 use Rattle.wire_base.specs.declared.address.Side.TheVariants.{Inward}
@@ -21,45 +21,46 @@ use Rattle.era_state.specs.Quantities.{iss}
 use Rattle.era_state.specs.Rules.{t_state, is_early_at}
 use Rattle.cold_start.specs.Rules.{is_asked, cold_probe_of}
 use Rattle.reset_probe.specs.Rules.{era_probe}
-use Rattle.ip_rules.specs.Judged.{where_holds}
+use Rattle.ip_rules.specs.JudgedRecord.{where_holds}
 use Rattle.ipv4_codec.specs.declared.header.Ipv4.{Ipv4}
-use Rattle.ipv4_codec.specs.Write.{plain_header}
+use Rattle.ipv4_codec.specs.WrittenHeader.{plain_header}
 use Rattle.edge_io.specs.Outboxes.{extended, last_frame}
-use Rattle.tcp_codec.specs.Write.{segment_octets}
+use Rattle.tcp_codec.specs.WrittenSegment.{segment_octets}
 use Rattle.era_state.specs.declared.probe.Probe.{Probe}
-use Rattle.reset_probe.specs.Write.{probe_octets, probe_segment}
+use Rattle.reset_probe.specs.ProbePackets.{probe_octets, probe_segment}
 use Rattle.linked_table.specs.declared.table.Slot.{Slot}
-use Rattle.linked_table.specs.Table as table
+use Rattle.linked_table.specs.EntryTable as table
 use Rattle.era_state.specs.declared.segment.Seg.{Seg}
 use Rattle.era_state.specs.Eras as eras
-use Rattle.era_state.specs.Read.{came}
-use Rattle.tcp_norm.specs.Heads.{IsRead, seen}
+use Rattle.era_state.specs.SegmentFields.{came}
+use Rattle.tcp_norm.specs.working.ReadHeads.{IsRead, seen}
 use Rattle.tcp_norm.specs.Calls.{segment_in, read, key_of, key_at, Call, segments, eras}
-use Rattle.tcp_norm.specs.Rows.{is_live, t_quota, t_room, dropped_by, holds_era, mended_by}
-use Rattle.tcp_norm.specs.Emits.{without_flag, bare_segment, stream_segment, is_fin_kept, octets_sent, probe_packets, probe_dropped, segment_anew, packet_by, packets_passed, probe_packet, segment_sent, sum_mended, flags_cleared}
-use Rattle.tcp_norm.specs.Views.{View, view_of}
-use Rattle.tcp_norm.specs.Inwards.{passed, bare_read}
-use Rattle.tcp_norm.specs.Anews.{anew_segment}
-use Rattle.tcp_norm.specs.Steps.{IsStep, listed, Does}
-use Rattle.tcp_norm.specs.Resets.{WritesAll}
+use Rattle.tcp_norm.specs.RuleRows.{is_live, t_quota, t_room, dropped_by, holds_era, mended_by}
+use Rattle.tcp_norm.specs.EmittedPackets.{without_flag, bare_segment, stream_segment, is_fin_kept, octets_sent, probe_packets, probe_dropped, segment_anew, packet_by, packets_passed, probe_packet, segment_sent, sum_mended, flags_cleared}
+use Rattle.tcp_norm.specs.RuleViews.{View, view_of}
+use Rattle.tcp_norm.specs.working.InwardSegments.{passed, bare_read}
+use Rattle.tcp_norm.specs.working.RewrittenSegments.{anew_segment}
+use Rattle.tcp_norm.specs.working.EraSteps.{IsStep, listed, Does}
+use Rattle.tcp_norm.specs.working.LiveWrites.{WritesAll}
 use Rattle.tcp_norm.specs.declared.step.Step.{Step}
-use Rattle.tcp_norm.specs.Outcomes.{outcome_at, outcome_by, outcome_dropped, verdict_of}
-use Rattle.tcp_norm.specs.declared.flow.Flow.{Flow}
+use Rattle.tcp_norm.specs.Outcomes.{call_of, outcome_at, outcome_by, outcome_dropped, verdict_of}
+use Rattle.tcp_norm.specs.declared.key.Flow.{Flow}
 use Rattle.tcp_norm.specs.declared.arrival.Arrival.{Arrival}
-use Rattle.tcp_norm.specs.Live.{Live}
+use Rattle.tcp_norm.specs.working.LiveSlots.{Live}
 use Rattle.tcp_norm.specs.declared.state.TcpNorm.{TcpNorm}
-use Rattle.tcp_norm.specs.declared.brief.Brief.{Brief}
-use Rattle.tcp_norm.specs.declared.ruling.Ruling.{Ruling}
-use Rattle.tcp_norm.specs.declared.ruling.Taking.{Taking}
-use Rattle.tcp_norm.specs.Rulings.{Decides, DecidesIn, IsCounted, IsFound, IsHeld, IsJudged, IsLiveIn, IsRuling, IsSaid, Judges, JudgesBy}
-use Rattle.tcp_norm.specs.Standing.{StandsFor}
-use Rattle.tcp_norm.proofs.StreamRules.{OfStream, stream_dropped, stream_begins_none, stream_ends_none, not_true, dropped_is}
+use Rattle.rule_book.specs.declared.entry.Entry.{Entry}
+use Rattle.tcp_norm.specs.declared.step.Ruling.{Ruling}
+use Rattle.tcp_norm.specs.declared.step.Ruling.TheVariants.{Drop}
+use Rattle.tcp_norm.specs.working.Rulings.{Answers, CarriesOut, IsCounted, IsFound, IsHeld, IsLiveIn, IsRuling, Shows}
+use Rattle.tcp_norm.specs.PassedPackets.{Reports}
+use Rattle.tcp_norm.specs.TableAndStore.{StandsFor}
+use Rattle.tcp_norm.proofs.SegmentRules.{OfStream, stream_dropped, stream_begins_none, stream_ends_none, not_true, dropped_is}
 use Rattle.tcp_norm.proofs.EraWrites.{fixed_or_passed, no_note}
 use Rattle.tcp_norm.proofs.BareSegments.{Comes, comes_bare}
 use Rattle.tcp_norm.proofs.Connections.{IsLive, view_live}
 use Rattle.tcp_norm.proofs.EraTable.{AtSlot, at_slot}
 use Rattle.tcp_codec.specs.declared.header.Tcp.{Tcp}
-use Rattle.tcp_norm.specs.Colds.{IsUnheard}
+use Rattle.tcp_norm.specs.working.ColdDatagrams.{IsUnheard}
 
 -- A segment of the stream of a live era.
 
@@ -311,21 +312,48 @@ probe_is settings d packet link head hops ip probe same side is fields raises =
 
 -- What holds for an inbound segment of a live era.
 
--- what is decided of the value in a slot is decided of a live era of the segment's connection
-pub decides_in : (a : Arrival) (old new : TcpNorm) (slot : Slot) (flow : Flow) (brief : Brief) (filled r : Ruling) (taking : Option Taking) (live : IsLiveIn old a slot) → IsSaid brief filled r → table.Wherever old.table.entries slot (λ e. flow ≡ e.value)
-    → All (λ e. e.slot.0 < old.table.max) old.table.entries → AllPairs (λ e f. e.slot ≢ f.slot) old.table.entries → AllPairs (λ e f. e.key ≢ f.key) old.table.entries
-    → (IsFound old a (record { key = live.key; slot = slot; flow = flow }) → Decides a old new (record { key = live.key; slot = slot; flow = flow }) r taking) → DecidesIn a old new slot brief filled taking
-decides_in a old new slot flow brief filled r taking live said was below slots keys decides =
-    let here : Live = record { key = live.key; slot = slot; flow = flow } in
-    let found : IsFound old a here = record {
-      held = record { inside = live.inside; entry = λ k x lt same. sym (was k x lt same); keyed = live.of_key; below = below; slots_apart = slots; keys_apart = keys };
-      keyed = live.keyed;
-    } in
-    record { r = r; said = said; key = live.key; flow = flow; found = found; decides = decides found }
+-- what is found in a slot is a live era of the segment's connection
+pub found_in : (a : Arrival) (norm : TcpNorm) (slot : Slot) (flow : Flow) (live : IsLiveIn norm a slot) → table.Wherever norm.table.entries slot (λ e. flow ≡ e.value)
+    → All (λ e. e.slot.0 < norm.table.max) norm.table.entries → AllPairs (λ e f. e.slot ≢ f.slot) norm.table.entries → AllPairs (λ e f. e.key ≢ f.key) norm.table.entries
+    → IsFound norm a (record { key = live.key; slot = slot; flow = flow })
+found_in a norm slot flow live was below slots keys = record {
+  held = record { inside = live.inside; entry = λ k x lt same. sym (was k x lt same); keyed = live.of_key; below = below; slots_apart = slots; keys_apart = keys };
+  keyed = live.keyed;
+}
 
--- a ruling that is said in brief, or filled in, is right
-pub says : (a : Arrival) (old new : TcpNorm) (brief : Brief) (filled r : Ruling) → IsSaid brief filled r → Judges a old new r → JudgesBy a old new brief filled
-says a old new brief filled r said judges = record { ruling = r; said = said; judges = judges }
+-- the ruling on a datagram, and the eras after it
+pub record IsJudged (settings : PlainSettings) (calls : List Call) (d : Datagram) (a : Arrival) (norm : TcpNorm) (r : Ruling) : Type 0 where
+  pub stands : StandsFor settings norm (call_of settings calls a.time d ∷ calls)
+  pub rules : IsRuling settings (view_of settings calls d) d a norm.scratch.items r
+
+-- the same after any calls
+abbrev pub Judges : Arrival → (old new : TcpNorm) → Ruling → Type 0
+Judges a old new r =
+    (settings : PlainSettings) (calls : List Call) (d : Datagram) → StandsFor settings old calls → IsDatagram a.packet.now a.link.now d
+    → IsJudged settings calls d a new r
+
+-- a datagram is answered by a right ruling that is carried out
+pub says : (a : Arrival) (old mid new : TcpNorm) (before after : Entry) (out : List (List ℕ)) (as_read : Bool) (r : Ruling)
+    → CarriesOut a mid new before after out as_read r → Judges a old mid r → Answers a old new before after out as_read
+says a old mid new before after out as_read r carries judges = record {
+  unsent = carries.unsent;
+  answered = λ settings calls d st is.
+      let j = judges settings calls d st is in
+      record {
+        stands = carries.same.stays settings _ j.stands;
+        shows = subst (Shows a before after out as_read) (sym j.rules.outcome_is) (carries.shows settings (view_of settings calls d).segments d j.stands.opened is j.rules.carried);
+      };
+}
+
+-- if a rule drops a datagram and nothing is sent, only its entry is written
+pub refused : (a : Arrival) (norm : TcpNorm) (before after : Entry) (out : List (List ℕ)) (rule : Rule) (era : Option ℕ) → out ≡ []
+    → Reports before after (record { verdict = verdicts.Drop; rules = rule ∷ []; era = era; begun = None; ended = []; packets = [] })
+    → CarriesOut a norm norm before after out false (Drop (record { rule = rule; era = era; probe = None }))
+refused a norm before after out rule era blank reports = record {
+  same = record { table_is = refl; stays = λ settings calls st. st; calls_are = refl; latest_is = refl };
+  unsent = tt;
+  shows = λ settings ws d opened is carried. record { entry = reports; frames = blank };
+}
 
 -- the ruling is that of the rule table, and the datagram is counted
 pub judged : (settings : PlainSettings) (calls : List Call) (d : Datagram) (a : Arrival) (old new : TcpNorm) (r : Ruling) → IsRuling settings (view_of settings calls d) d a old.scratch.items r

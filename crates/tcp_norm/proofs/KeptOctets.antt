@@ -7,29 +7,29 @@ use Rattle.std.proofs.lemmas.Bool.Decides.{nat_tests}
 use Rattle.std.specs.List.{AllByRecursion, count_by, range_with_len}
 use Rattle.std.proofs.lemmas.List.Sums.{sum_by-cons}
 use Rattle.wire_base.specs.Segments.{Written}
-use Rattle.era_state.specs.Words.{first_of, greatest, Moment, moments}
+use Rattle.era_state.specs.ListElements.{first_of, greatest, Moment, moments}
 use Rattle.era_state.specs.Offsets.{off, natural, nat_of, number_in}
-use Rattle.era_state.specs.Marks.{octet_at, top_place, get_at, has_octets, fixes}
+use Rattle.era_state.specs.SegmentMarks.{octet_at, top_place, get_at, has_octets, fixes}
 use Rattle.era_state.specs.Quantities.{acked, first, top, base_of, base_at, fresh_places}
 use Rattle.era_state.specs.declared.era.Era.{Era}
 use Rattle.era_state.specs.declared.era.Era.TheVariants.{Called, Offered, Warm, Closed}
-use Rattle.era_state.specs.Silence.{IsSilent}
+use Rattle.era_state.specs.SilentSegments.{IsSilent}
 use Rattle.era_state.specs.Eras.{acked_in, SilenceStands, StandsFor, last_in}
 use Rattle.era_state.specs.Eras as era
-use Rattle.era_state.specs.Laws.{FirstStays, AckedNeverFalls, FrameOctets, IntervalsFit}
+use Rattle.era_state.specs.QuantityLaws.{FirstStays, AckedNeverFalls, FrameOctets, IntervalsFit}
 use Rattle.retain_store.specs.Maps.{Block, ForgetsBelow, IsMap, IsWithin, holds, missing, octet_at as stored_octet, Places, octet_in, fresh}
 use Rattle.retain_store.proofs.Room as kept
-use Rattle.era_state.specs.declared.interval.Interval.{Interval}
+use Rattle.era_state.specs.declared.offset.Interval.{Interval}
 use Rattle.era_state.specs.declared.warm.Warm.{Warm as WarmEra}
-use Rattle.era_state.specs.Standing.{WarmFor}
-use Rattle.era_state.specs.Intervals.{KeptOf}
-use Rattle.era_state.specs.Changes.{WarmWith}
-use Rattle.era_state.specs.Frames.{IsFrame}
+use Rattle.era_state.specs.EraFields.{WarmFor}
+use Rattle.era_state.specs.KeptIntervals.{KeptOf}
+use Rattle.era_state.specs.FrameChanges.{WarmWith}
+use Rattle.era_state.specs.WrittenFrames.{IsFrame}
 use Rattle.era_state.proofs.Quantities.{or_none}
-use Rattle.tcp_norm.specs.Held.{kept_at, held_of, missing_of}
-use Rattle.tcp_norm.specs.Chains.{Keeps}
-use Rattle.tcp_norm.specs.Writes.{BringsNone}
-use Rattle.tcp_norm.specs.Rows.{low_of, high_of}
+use Rattle.tcp_norm.specs.HeldOctets.{kept_at, held_of, missing_of}
+use Rattle.tcp_norm.specs.KeptChains.{Keeps}
+use Rattle.tcp_norm.specs.working.EmptySegments.{BringsNone}
+use Rattle.tcp_norm.specs.RuleRows.{low_of, high_of}
 use Rattle.era_state.specs.declared.era.Era.TheVariants as variants
 
 -- The octets kept of an era, from what is acknowledged to Top, and what is kept of them after a

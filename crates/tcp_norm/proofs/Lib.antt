@@ -7,8 +7,7 @@ pub mod Lists
 pub mod SpareEras
 pub mod EraTable
 pub mod KeptOctets
-pub mod HeaderRules
-pub mod StreamRules
+pub mod SegmentRules
 pub mod StreamFrames
 pub mod Connections
 pub mod OutboundSegments
@@ -20,5 +19,7 @@ pub mod Packets
 pub mod EmittedSegments
 pub mod EmittedCalls
 pub mod BroughtOctets
+pub mod WrittenSegments
+pub mod Clashes
 pub mod Payloads
 pub mod HeldBlocks

@@ -5,14 +5,14 @@ use Rattle.std.specs.List.{AllByRecursion, find, AllPairs, list_any, count_by, r
 use Rattle.std.proofs.lemmas.List.Elements.{recursion_from_All, All-from_recursion}
 use Rattle.std.proofs.lemmas.Bool.{false≢true}
 use Rattle.std.proofs.lemmas.List.Sums.{sum_by-cons}
-use Rattle.linked_table.specs.Table.{Pairwise, Entry, IsIn, Wherever, HasNone}
+use Rattle.linked_table.specs.EntryTable.{Pairwise, Entry, IsIn, Wherever, HasNone}
 pub use Rattle.linked_table.proofs.Lists.{filter_none, all_before, all_after, all_join, all_weaker}
 use Rattle.linked_table.specs.declared.table.Slot.{Slot}
-use Rattle.linked_table.specs.Table as table
+use Rattle.linked_table.specs.EntryTable as table
 use Rattle.wire_base.specs.declared.address.FlowKey.{FlowKey}
 use Rattle.linked_table.proofs.Entries.{split_at, wherever, left_out}
-use Rattle.tcp_norm.specs.Rows.{differ}
-use Rattle.tcp_norm.specs.declared.flow.Flow.{Flow}
+use Rattle.tcp_norm.specs.RuleRows.{differ}
+use Rattle.tcp_norm.specs.declared.key.Flow.{Flow}
 use Rattle.tcp_norm.specs.declared.key.EraKey.{EraKey}
 use Rattle.tcp_norm.specs.Calls.{is_among}
 
@@ -62,6 +62,9 @@ everywhere P (x ∷ xs) each = (each x, everywhere P xs each)
 
 pub some_same : {X : Type 0} {x y : X} → Some x ≡ Some y → x ≡ y
 some_same e = cc
+
+pub some_none : {X : Type 0} {x : X} → None ≡ Some x → ⊥
+some_none e = cc
 
 -- Lists that differ at no index are the same.
 

@@ -8,16 +8,16 @@ use Rattle.std.proofs.lemmas.Bool.{false≢true, not-true, not_from_false, or_fr
 use Rattle.std.specs.Option.{option_or}
 use Rattle.wire_base.specs.declared.address.FlowKey.{FlowKey}
 use Rattle.linked_table.specs.declared.table.Slot.{Slot}
-use Rattle.linked_table.specs.Table.{Entry, IsIn, HasNone, SplitAt, Wherever, Pairwise}
+use Rattle.linked_table.specs.EntryTable.{Entry, IsIn, HasNone, SplitAt, Wherever, Pairwise}
 use Rattle.linked_table.proofs.Entries.{split_at, wherever}
 use Rattle.linked_table.proofs.Lists.{all_weaker, all_join, all_before, all_after}
 use Rattle.ip_rules.proofs.Lists.{none_found}
-use Rattle.tcp_norm.specs.declared.flow.Flow.{Flow}
+use Rattle.tcp_norm.specs.declared.key.Flow.{Flow}
 use Rattle.tcp_norm.specs.declared.key.EraKey.{EraKey}
 use Rattle.tcp_norm.specs.Calls.{is_key, Call, Alive, eras, is_among, ended_by, begun_in, begins_by, touched_by, time_of, numbers_of, live}
-use Rattle.tcp_norm.specs.Standing.{alive_in}
-use Rattle.tcp_norm.specs.Lives.{begun_for, last_begun, has_ended, writes_in, last_touch, touch_place, IsLast}
-use Rattle.tcp_norm.specs.Views.{number_of}
+use Rattle.tcp_norm.specs.TableAndStore.{alive_in}
+use Rattle.tcp_norm.specs.LiveEras.{begun_for, last_begun, has_ended, writes_in, last_touch, touch_place, IsLast}
+use Rattle.tcp_norm.specs.RuleViews.{number_of}
 use Rattle.tcp_norm.proofs.Lists.{all_map, find_split, find_none, some_same, all_filter, all_passed, all_unfiltered, all_two, pairs_passed, pairs_join, pairs_weaker, pairs_alone, found_is, number_other}
 
 -- What the table finds of a four-tuple is its live era.

@@ -3,41 +3,42 @@ use Rattle.std.proofs.Common.{◌≡◌, ℕ, ◌&&◌, ◌≤◌, not, Bool, tr
 use Rattle.wire_base.specs.Tcp as tcp
 use Rattle.wire_base.specs.Segments.{Written}
 use Rattle.wire_base.specs.Options.{scale_of}
-use Rattle.wire_base.specs.Sums.{pseudo_sum, sum_is_right}
+use Rattle.wire_base.specs.Checksums.{pseudo_sum, sum_is_right}
 use Rattle.wire_base.specs.declared.address.Side.TheVariants.{Outward, Inward}
 use Rattle.wire_base.specs.declared.address.FlowKey.{FlowKey}
-use Rattle.ip_rules.specs.declared.judged.IpPacket.{IpPacket}
+use Rattle.ip_rules.specs.declared.rows.IpPacket.{IpPacket}
 use Rattle.tcp_codec.specs.declared.header.Tcp.{Tcp}
-use Rattle.tcp_codec.specs.Header.{fields_of}
+use Rattle.tcp_codec.specs.HeaderFields.{fields_of}
 use Rattle.era_state.specs.declared.segment.Seg.{Seg}
-use Rattle.era_state.specs.Read.{sent}
+use Rattle.era_state.specs.SegmentFields.{sent}
 use Rattle.ip_rules.specs.Datagrams.{Datagram, goes_in, IsDatagram, head_sent, anew, frames_of}
 use Rattle.rule_book.specs.declared.rule.Rule.{Rule}
 use Rattle.rule_book.specs.declared.rule.Rule.TheVariants as rules
 use Rattle.rule_book.specs.Rules.{era_rows}
-use Rattle.norm_settings.specs.Settings.{PlainSettings}
-use Rattle.tcp_codec.specs.Mending.{SaysTheSame, MendedSayTheSame, mended}
+use Rattle.norm_settings.specs.SettingValues.{PlainSettings}
+use Rattle.tcp_codec.specs.MendedSegment.{SaysTheSame, MendedSayTheSame, mended}
 use Rattle.era_state.specs.Quantities.{out}
 use Rattle.cold_start.specs.Rules.{is_asked, cold_probe_of}
 use Rattle.reset_probe.specs.Rules.{era_probe}
-use Rattle.ip_rules.specs.Judged.{where_holds}
+use Rattle.ip_rules.specs.JudgedRecord.{where_holds}
 use Rattle.ipv4_codec.specs.declared.header.Ipv4.{Ipv4}
-use Rattle.ipv4_codec.specs.Write.{plain_header}
-use Rattle.tcp_codec.specs.Write.{segment_octets}
+use Rattle.ipv4_codec.specs.WrittenHeader.{plain_header}
+use Rattle.tcp_codec.specs.WrittenSegment.{segment_octets}
 use Rattle.tcp_norm.specs.declared.step.Step.{Step}
 use Rattle.tcp_norm.specs.Calls.{read, segment_in, key_at}
-use Rattle.tcp_norm.specs.Views.{View}
-use Rattle.tcp_norm.specs.Rows.{is_live, holds_era, dropped_by, mended_by, noted, t_sum_out, pseudo_of, bare_mends, header_mends, stream_mends}
-use Rattle.tcp_norm.specs.Emits.{packet_by, packets_passed, probe_packet, probe_packets, segment_sent, sum_mended, segment_anew}
+use Rattle.tcp_norm.specs.RuleViews.{View}
+use Rattle.tcp_norm.specs.RuleRows.{is_live, holds_era, dropped_by, mended_by, noted, t_sum_out, pseudo_of, bare_mends, header_mends, stream_mends}
+use Rattle.tcp_norm.specs.EmittedPackets.{packet_by, packets_passed, probe_packet, probe_packets, segment_sent, sum_mended, segment_anew}
 use Rattle.tcp_norm.specs.Outcomes.{outcome_at, outcome_by, verdict_of}
-use Rattle.tcp_norm.specs.Steps.{IsStep, Does, Sends}
-use Rattle.tcp_norm.specs.Inwards.{passed}
-use Rattle.tcp_norm.specs.Heads.{IsHead, IsRead}
+use Rattle.tcp_norm.specs.working.EraSteps.{IsStep, Does, Sends}
+use Rattle.tcp_norm.specs.working.InwardSegments.{passed}
+use Rattle.tcp_norm.specs.SegmentHeads.{IsHead}
+use Rattle.tcp_norm.specs.working.ReadHeads.{IsRead}
 use Rattle.tcp_norm.proofs.EraWrites.{fixed_or_passed}
 use Rattle.tcp_norm.proofs.InboundSegments.{not_empty}
 use Rattle.wire_base.specs.declared.address.Side.{Side}
 use Rattle.std.specs.Prelude.{filter}
-use Rattle.tcp_norm.proofs.HeaderRules.{one_more}
+use Rattle.tcp_norm.proofs.SegmentRules.{one_more}
 
 -- What becomes of an outbound datagram: it goes out, with its checksum corrected where that is
 -- wrong and left to the sender's interface.

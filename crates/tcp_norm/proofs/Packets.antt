@@ -7,34 +7,33 @@ use Rattle.std.proofs.lemmas.Bool.{or_parts}
 use Rattle.wire_base.specs.Tcp as tcp
 use Rattle.wire_base.specs.Numbers.{u16_at, u32_at}
 use Rattle.wire_base.specs.Segments.{Written}
-use Rattle.tcp_codec.specs.Write.{Fits, segment_octets, AreReadBack}
+use Rattle.tcp_codec.specs.WrittenSegment.{Fits, segment_octets, AreReadBack}
 use Rattle.era_state.specs.Offsets.{nat_of}
 use Rattle.era_state.specs.Quantities.{base_at}
-use Rattle.era_state.specs.Keeping.{bounds_of, offset_of, low, high, keeps_fin, frame_sequence_of, Bounds, reach}
+use Rattle.era_state.specs.ForwardedOctets.{bounds_of, offset_of, low, high, keeps_fin, frame_sequence_of, Bounds, reach}
 use Rattle.ip_rules.specs.Datagrams.{Datagram, Packet, AnewIsPacket, IsPacketOf, goes_in}
 use Rattle.rule_book.specs.declared.rule.Rule.{Rule}
-use Rattle.norm_settings.specs.Settings.{PlainSettings}
+use Rattle.norm_settings.specs.SettingValues.{PlainSettings}
 use Rattle.era_state.specs.declared.probe.Probe.{Probe}
 use Rattle.cold_start.specs.Rules.{cold_probe_of, is_asked}
 use Rattle.reset_probe.specs.Rules.{era_probe}
-use Rattle.tcp_codec.specs.Cleaning.{CleansOctets, CleansOnce, StaysWellFormed}
-use Rattle.tcp_codec.specs.Mending.{MendedSayTheSame}
-use Rattle.wire_base.specs.Sums.{sum_is_right, pseudo_sum}
+use Rattle.tcp_codec.specs.CleanedOptions.{CleansOctets, CleansOnce, StaysWellFormed}
+use Rattle.tcp_codec.specs.MendedSegment.{MendedSayTheSame}
+use Rattle.wire_base.specs.Checksums.{sum_is_right, pseudo_sum}
 use Rattle.wire_base.specs.Options.{are_well_formed, cleaned}
 use Rattle.wire_base.specs.Plain.{Plain, IsPlainTcp}
 use Rattle.tcp_codec.specs.declared.header.Tcp.{Tcp}
 use Rattle.ip_rules.proofs.Lists.{none_named}
-use Rattle.tcp_norm.specs.Heads.{AreBits}
+use Rattle.tcp_norm.specs.working.ReadHeads.{AreBits}
 use Rattle.tcp_norm.specs.Calls.{segment_in, is_written}
-use Rattle.tcp_norm.specs.Rows.{options_sent, is_live, dropped_by, mended_by, pseudo_of, mends, holds_era, bare_mends, header_mends, stream_mends}
-use Rattle.tcp_norm.specs.Emits.{without_flag, segment_with, bare_segment, stream_segment, is_fin_kept, octets_sent, packet_by, probe_packet, probe_packets, probe_dropped, segment_sent, segment_anew, sum_mended, flags_cleared}
-use Rattle.tcp_norm.specs.Views.{View}
+use Rattle.tcp_norm.specs.RuleRows.{options_sent, is_live, dropped_by, mended_by, pseudo_of, mends, holds_era, bare_mends, header_mends, stream_mends}
+use Rattle.tcp_norm.specs.EmittedPackets.{without_flag, segment_with, bare_segment, stream_segment, is_fin_kept, octets_sent, packet_by, probe_packet, probe_packets, probe_dropped, segment_sent, segment_anew, sum_mended, flags_cleared}
+use Rattle.tcp_norm.specs.RuleViews.{View}
 use Rattle.tcp_norm.specs.Outcomes.{outcome_at, outcome_by}
-use Rattle.tcp_norm.specs.Segments.{ProbesAreSilent, IsSilentPacket, IsSegment}
+use Rattle.tcp_norm.specs.SegmentPackets.{ProbesAreSilent, IsSilentPacket, IsSegment}
 use Rattle.tcp_norm.proofs.EraWrites.{fixed_or_passed}
 use Rattle.tcp_norm.proofs.BareSegments.{written_long, behind, empty}
-use Rattle.tcp_norm.proofs.StreamRules.{sent_long}
-use Rattle.tcp_norm.proofs.HeaderRules.{flags_stay, header_stays, legal_stays, less, other_flag}
+use Rattle.tcp_norm.proofs.SegmentRules.{sent_long, flags_stay, header_stays, legal_stays, less, other_flag}
 use Rattle.linked_table.proofs.Lists.{all_after, all_before}
 
 -- The fields of a rewritten segment fit their widths.

@@ -8,37 +8,37 @@ use Rattle.wire_base.specs.Segments.{Written}
 use Rattle.rule_book.specs.declared.rule.Rule.{Rule}
 use Rattle.rule_book.specs.declared.rule.Rule.TheVariants as rules
 use Rattle.rule_book.specs.Rules.{era_rows, touches_payload}
-use Rattle.norm_settings.specs.Settings.{PlainSettings}
-use Rattle.tcp_codec.specs.Cleaning.{CleansOctets}
-use Rattle.tcp_codec.specs.Mending.{MendedSayTheSame}
-use Rattle.tcp_codec.specs.Write.{AreReadBack, segment_octets}
+use Rattle.norm_settings.specs.SettingValues.{PlainSettings}
+use Rattle.tcp_codec.specs.CleanedOptions.{CleansOctets}
+use Rattle.tcp_codec.specs.MendedSegment.{MendedSayTheSame}
+use Rattle.tcp_codec.specs.WrittenSegment.{AreReadBack, segment_octets}
 use Rattle.era_state.specs.Quantities.{out, iss, base_of}
-use Rattle.era_state.specs.Keeping.{bounds_of, offset_of, begins_below, passes_window, passes_end}
+use Rattle.era_state.specs.ForwardedOctets.{bounds_of, offset_of, begins_below, passes_window, passes_end}
 use Rattle.era_state.specs.States.{State, called, offered, warm, closed, state_of, is_called, is_offered, is_acknowledged}
 use Rattle.era_state.specs.Rules as era
-use Rattle.era_state.specs.Laws.{IntervalsFit}
+use Rattle.era_state.specs.QuantityLaws.{IntervalsFit}
 use Rattle.cold_start.specs.Rules.{is_asked, cold_probe_of}
 use Rattle.reset_probe.specs.Rules.{era_probe, probe_with, awaited_number}
 use Rattle.ip_rules.specs.Datagrams.{Datagram, Packet, goes_in}
 use Rattle.tcp_codec.specs.declared.header.Tcp.{Tcp}
 use Rattle.era_state.specs.Offsets.{off, natural}
-use Rattle.era_state.specs.Marks.{octet_at, get_at}
+use Rattle.era_state.specs.SegmentMarks.{octet_at, get_at}
 use Rattle.era_state.specs.declared.probe.Probe.{Probe}
 use Rattle.era_state.specs.Emission.{AreEmitted}
 use Rattle.ip_rules.proofs.Lists.{none_found}
 use Rattle.tcp_norm.specs.Calls.{segment_in, datagram, read, is_era, is_written, written_by}
-use Rattle.tcp_norm.specs.Views.{View}
-use Rattle.tcp_norm.specs.Rows.{is_live, holds_era, mends, dropped_by, mended_by, pseudo_of, clashes, c_probe, t_quota, t_room, bare_mends, header_mends, stream_mends}
-use Rattle.tcp_norm.specs.Emits.{packet_by, packets_passed, probe_packet, probe_packets, segment_sent, segment_anew, bare_segment, stream_segment, sum_mended}
+use Rattle.tcp_norm.specs.RuleViews.{View}
+use Rattle.tcp_norm.specs.RuleRows.{is_live, holds_era, mends, dropped_by, mended_by, pseudo_of, clashes, c_probe, t_quota, t_room, bare_mends, header_mends, stream_mends}
+use Rattle.tcp_norm.specs.EmittedPackets.{packet_by, packets_passed, probe_packet, probe_packets, segment_sent, segment_anew, bare_segment, stream_segment, sum_mended}
 use Rattle.tcp_norm.specs.Outcomes.{outcome_at, outcome_by, outcome_dropped, outcome_passed}
-use Rattle.tcp_norm.specs.Segments.{IsSegment, KeepsPayload}
-use Rattle.tcp_norm.specs.Writes.{BringsNone}
+use Rattle.tcp_norm.specs.SegmentPackets.{IsSegment, KeepsPayload}
+use Rattle.tcp_norm.specs.working.EmptySegments.{BringsNone}
 use Rattle.tcp_norm.proofs.StreamFrames.{Own, own, own_octets}
 use Rattle.tcp_norm.proofs.Packets.{bare_fits_here, stream_fits_here}
 use Rattle.tcp_norm.proofs.EmittedSegments.{packet_sent}
 use Rattle.tcp_norm.proofs.BareSegments.{empty, behind}
 use Rattle.tcp_norm.proofs.KeptOctets.{outbound_brings_none}
-use Rattle.tcp_norm.proofs.StreamRules.{sent_long}
+use Rattle.tcp_norm.proofs.SegmentRules.{sent_long}
 use Rattle.tcp_norm.proofs.HeldBlocks.{Laws, Stands, own_stands, anew_stands}
 use Rattle.tcp_norm.proofs.Connections.{get_none}
 use Rattle.linked_table.proofs.Lists.{all_after}

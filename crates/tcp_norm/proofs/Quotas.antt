@@ -9,7 +9,7 @@ use Rattle.std.proofs.Math.Nat.{suc-mul, mul-le-mul_right}
 use Rattle.retain_store.specs.Maps.{Block, Store, ChangesOnly, ForgetsBelow, IsMap, IsWithin, block_at, chain_of, holds, octet_at}
 use Rattle.retain_store.proofs.Room.{holds_are}
 use Rattle.rule_book.specs.declared.rule.Rule.TheVariants as rules
-use Rattle.norm_settings.specs.Settings.{PlainSettings}
+use Rattle.norm_settings.specs.SettingValues.{PlainSettings}
 use Rattle.era_state.specs.Rules.{is_of_stream}
 use Rattle.ip_rules.specs.Datagrams.{Datagram, goes_in}
 use Rattle.linked_table.proofs.Lists.{all_weaker, all_join}
@@ -18,16 +18,17 @@ use Rattle.wire_base.specs.Segments.{Written}
 use Rattle.era_state.specs.Emission.{AreEmitted}
 use Rattle.era_state.specs.States.{state_of, is_acknowledged}
 use Rattle.retain_store.proofs.Counts.{sum_agree}
-use Rattle.tcp_norm.specs.Near.{AreBounded, IsAtMost}
-use Rattle.tcp_norm.specs.Rows.{exceeds, is_live, holds_era, dropped_by, wanted_of}
+use Rattle.tcp_norm.specs.working.EraBounds.{AreBounded}
+use Rattle.tcp_norm.specs.QuotaBounds.{IsAtMost}
+use Rattle.tcp_norm.specs.RuleRows.{exceeds, is_live, holds_era, dropped_by, wanted_of}
 use Rattle.tcp_norm.specs.Calls.{Call, eras, segments, live, is_key, key_of, segment_in, expiry, datagram, Alive, is_among, written_by, touched_by, ended_by, begun_in, numbers_of, without}
-use Rattle.tcp_norm.specs.Held.{held_all, held_in, held_of}
-use Rattle.tcp_norm.specs.Views.{view_of, number_of, segments_of, View}
-use Rattle.tcp_norm.specs.Standing.{HoldsFor, EntryStands, alive_in}
+use Rattle.tcp_norm.specs.HeldOctets.{held_all, held_in, held_of}
+use Rattle.tcp_norm.specs.RuleViews.{view_of, number_of, segments_of, View}
+use Rattle.tcp_norm.specs.TableAndStore.{HoldsFor, EntryStands, alive_in}
 use Rattle.tcp_norm.specs.Outcomes.{call_of}
-use Rattle.tcp_norm.specs.Lives.{AreMade, made_of, writes_in}
-use Rattle.tcp_norm.specs.Segments.{IsSegment, AsksSegment, AreOfSegments, CallsAreEmitted, IsBounded, HeldIsBounded, QuotaLeavesRoom}
-use Rattle.tcp_norm.specs.Writes.{BringsNone}
+use Rattle.tcp_norm.specs.LiveEras.{AreMade, made_of, writes_in}
+use Rattle.tcp_norm.specs.SegmentPackets.{IsSegment, AsksSegment, AreOfSegments, CallsAreEmitted, IsBounded, HeldIsBounded, QuotaLeavesRoom}
+use Rattle.tcp_norm.specs.working.EmptySegments.{BringsNone}
 use Rattle.tcp_norm.proofs.Lists.{all_map, any_weaker, count_below, all_filter, all_passed, found_is, number_same, everywhere}
 use Rattle.tcp_norm.proofs.CallKinds.{Moves, Kind, stays, goes_on, ends_own, begins_beside, evicts, reopens_one, kind}
 use Rattle.tcp_norm.proofs.EraCounts.{flows_are_bounded}
@@ -35,8 +36,8 @@ use Rattle.tcp_norm.proofs.HeldBlocks.{Laws, silent_all, frame_grows}
 use Rattle.tcp_norm.proofs.Payloads.{Writes, silent, framed, call_writes, first_is_silent}
 use Rattle.tcp_norm.proofs.EmittedSegments.{acknowledged_based}
 use Rattle.tcp_norm.proofs.EmittedCalls.{unwritten, none_to_come}
-use Rattle.linked_table.specs.Table.{Entry}
-use Rattle.tcp_norm.specs.declared.flow.Flow.{Flow}
+use Rattle.linked_table.specs.EntryTable.{Entry}
+use Rattle.tcp_norm.specs.declared.key.Flow.{Flow}
 use Rattle.tcp_norm.specs.declared.key.EraKey.{EraKey}
 
 -- No era holds more cells than the quota allows; where all eras together have theirs, T_ROOM drops

@@ -5,7 +5,7 @@ use Rattle.std.specs.List.{AllPairs, AllByRecursion, sum_by, All}
 use Rattle.std.proofs.lemmas.List.Elements.{recursion_from_All, filter-append}
 use Rattle.std.proofs.lemmas.List.{append-nil, map-append}
 use Rattle.linked_table.specs.declared.table.Slot.{Slot}
-use Rattle.linked_table.specs.Table.{Entry, IsIn, SplitAt, Pairwise, IsNotIn}
+use Rattle.linked_table.specs.EntryTable.{Entry, IsIn, SplitAt, Pairwise, IsNotIn}
 use Rattle.linked_table.proofs.Entries.{split_at}
 use Rattle.linked_table.proofs.Lists.{all_weaker, pairwise, filter_rest}
 use Rattle.wire_base.specs.Segments.{Written}
@@ -15,16 +15,16 @@ use Rattle.era_state.specs.Quantities.{octets_of}
 use Rattle.linked_table.specs.Listing.{first_of, others, Listing}
 use Rattle.retain_store.specs.Maps.{Store, chain_of, ChangesOnly, Block}
 use Rattle.retain_store.proofs.Counts.{AreApart, sum_chains, sum_agree, sum_map, blocks_at}
-use Rattle.linked_table.specs.Table as table
+use Rattle.linked_table.specs.EntryTable as table
 use Rattle.retain_store.proofs.Blocks.{others_same}
-use Rattle.tcp_norm.specs.declared.flow.Flow.{Flow}
+use Rattle.tcp_norm.specs.declared.key.Flow.{Flow}
 use Rattle.tcp_norm.specs.declared.key.EraKey.{EraKey}
 use Rattle.tcp_norm.specs.Calls.{Alive, Call, eras, segments}
-use Rattle.tcp_norm.specs.Standing.{alive_in, HoldsFor, EntryStands}
-use Rattle.tcp_norm.specs.Held.{held_of, held_all, held_in}
-use Rattle.tcp_norm.specs.Views.{head_of}
-use Rattle.tcp_norm.specs.Steps.{evicted_of, first_empty}
-use Rattle.tcp_norm.specs.Spare.{spares, is_empty, settled, written_back}
+use Rattle.tcp_norm.specs.TableAndStore.{alive_in, HoldsFor, EntryStands}
+use Rattle.tcp_norm.specs.HeldOctets.{held_of, held_all, held_in}
+use Rattle.tcp_norm.specs.RuleViews.{head_of}
+use Rattle.tcp_norm.specs.working.EraSteps.{evicted_of, first_empty}
+use Rattle.tcp_norm.specs.working.SpareSlots.{spares, is_empty, settled, written_back}
 use Rattle.tcp_norm.proofs.EraTable.{put_touch}
 
 -- The least recently touched era that holds nothing, as the table finds it.

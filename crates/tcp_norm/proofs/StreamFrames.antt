@@ -9,29 +9,29 @@ use Rattle.std.proofs.lemmas.Bool.{and_parts, or_parts}
 use Rattle.wire_base.specs.Segments.{Written}
 use Rattle.era_state.specs.Quantities.{base_at, acked, first, end_of}
 use Rattle.retain_store.specs.Maps.{Block, Settles, octet_at as stored_octet}
-use Rattle.era_state.specs.declared.interval.Interval.{Interval}
+use Rattle.era_state.specs.declared.offset.Interval.{Interval}
 use Rattle.era_state.specs.declared.warm.Warm.{Warm as WarmEra}
 use Rattle.era_state.specs.Offsets.{off, nat_of, number_in, whole, OffsetsAreRead}
-use Rattle.era_state.specs.Standing.{WarmFor}
-use Rattle.era_state.specs.Intervals.{KeptOf}
-use Rattle.era_state.specs.Keeping.{offset_of, Bounds, bounds_of, low, high, reach, up_to_end, is_kept_fin, keeps_fin, begins_below, passes_window, passes_end, ends_below, frame_sequence}
+use Rattle.era_state.specs.EraFields.{WarmFor}
+use Rattle.era_state.specs.KeptIntervals.{KeptOf}
+use Rattle.era_state.specs.ForwardedOctets.{offset_of, Bounds, bounds_of, low, high, reach, up_to_end, is_kept_fin, keeps_fin, begins_below, passes_window, passes_end, ends_below, frame_sequence}
 use Rattle.rule_book.specs.declared.rule.Rule.{Rule}
 use Rattle.rule_book.specs.declared.rule.Rule.TheVariants as rules
-use Rattle.ip_rules.specs.Judged.{where_holds}
+use Rattle.ip_rules.specs.JudgedRecord.{where_holds}
 use Rattle.wire_base.specs.Tcp as tcp
 use Rattle.era_state.specs.Rules as era
-use Rattle.era_state.specs.Frames.{IsFrame}
-use Rattle.tcp_codec.specs.Write.{Fits, AreReadBack, segment_octets}
-use Rattle.norm_settings.specs.Settings.{PlainSettings}
+use Rattle.era_state.specs.WrittenFrames.{IsFrame}
+use Rattle.tcp_codec.specs.WrittenSegment.{Fits, AreReadBack, segment_octets}
+use Rattle.norm_settings.specs.SettingValues.{PlainSettings}
 use Rattle.ip_rules.specs.Datagrams.{Datagram}
-use Rattle.tcp_norm.specs.Held.{kept_at}
-use Rattle.tcp_norm.specs.Chains.{Keeps}
-use Rattle.tcp_norm.specs.Rows.{low_of, high_of, octet_sent, own_octet, clashes, kept_offsets}
-use Rattle.tcp_norm.specs.Emits.{octets_sent, packet_by, segment_sent, segment_anew, stream_segment, bare_segment, sum_mended}
-use Rattle.tcp_norm.specs.Streams.{stream_rows, and_those, stream_tests}
+use Rattle.tcp_norm.specs.HeldOctets.{kept_at}
+use Rattle.tcp_norm.specs.KeptChains.{Keeps}
+use Rattle.tcp_norm.specs.RuleRows.{low_of, high_of, octet_sent, own_octet, clashes, kept_offsets}
+use Rattle.tcp_norm.specs.EmittedPackets.{octets_sent, packet_by, segment_sent, segment_anew, stream_segment, bare_segment, sum_mended}
+use Rattle.tcp_norm.specs.working.RewriteTests.{stream_rows, and_those, stream_tests}
 use Rattle.tcp_norm.specs.Calls.{read, segment_in}
-use Rattle.tcp_norm.specs.Laws.{WritesFrame}
-use Rattle.tcp_norm.proofs.StreamRules.{OfStream, anew_is_frame}
+use Rattle.tcp_norm.specs.CallLaws.{WritesFrame}
+use Rattle.tcp_norm.proofs.SegmentRules.{OfStream, anew_is_frame}
 use Rattle.tcp_norm.proofs.Lists.{same_step, tests_agree}
 
 -- The octets of a segment of the stream that go out: the chain's where it has some, else the

@@ -4,17 +4,17 @@ use Rattle.std.proofs.Common.{◌≡◌, ℕ, ◌+◌, ◌%◌, Bool, true, fals
 use Rattle.std.specs.List.{AllByRecursion}
 use Rattle.wire_base.specs.Tcp as tcp
 use Rattle.wire_base.specs.Segments.{Written}
-use Rattle.tcp_codec.specs.Write.{AreReadBack}
+use Rattle.tcp_codec.specs.WrittenSegment.{AreReadBack}
 use Rattle.era_state.specs.Quantities.{out, base_of, octets_of}
 use Rattle.ip_rules.specs.Datagrams.{Datagram, goes_in, IsDatagram, Packet, raised, frames_of}
 use Rattle.wire_base.specs.Options.{cleaned}
-use Rattle.ip_rules.specs.declared.judged.IpPacket.{IpPacket}
+use Rattle.ip_rules.specs.declared.rows.IpPacket.{IpPacket}
 use Rattle.rule_book.specs.declared.rule.Rule.{Rule}
-use Rattle.norm_settings.specs.Settings.{PlainSettings}
+use Rattle.norm_settings.specs.SettingValues.{PlainSettings}
 use Rattle.era_state.specs.declared.segment.Seg.{Seg}
-use Rattle.era_state.specs.Read.{came}
+use Rattle.era_state.specs.SegmentFields.{came}
 use Rattle.era_state.specs.declared.probe.Probe.{Probe}
-use Rattle.era_state.specs.Silence.{IsSilent}
+use Rattle.era_state.specs.SilentSegments.{IsSilent}
 use Rattle.era_state.specs.States.{state_of, is_closed}
 use Rattle.era_state.specs.Rules as era
 use Rattle.reset_probe.specs.Rules.{era_probe, probe_with, awaited_number}
@@ -28,26 +28,26 @@ use Rattle.rule_book.specs.declared.rule.Rule.TheVariants as rules
 use Rattle.rule_book.specs.declared.entry.Verdict.TheVariants as verdicts
 use Rattle.era_state.specs.Rules.{t_state, t_syn, reopens_inward}
 use Rattle.era_state.specs.Eras as eras
-use Rattle.tcp_norm.specs.Heads.{AreBits, IsRead, seen}
+use Rattle.tcp_norm.specs.working.ReadHeads.{AreBits, IsRead, seen}
 use Rattle.tcp_norm.specs.Calls.{segment_in, read, Call, segments, key_of}
-use Rattle.tcp_norm.specs.Rows.{options_sent, is_live, c_probe, mended_by, dropped_by, differ}
-use Rattle.tcp_norm.specs.Emits.{packet_by, probe_packets, segment_anew, bare_segment, flags_cleared}
-use Rattle.tcp_norm.specs.Views.{View, view_of}
-use Rattle.tcp_norm.specs.Inwards.{bare_read, passed}
-use Rattle.tcp_norm.specs.Anews.{anew_segment}
-use Rattle.tcp_norm.specs.Rulings.{probe_frames, IsRewritten, refused_by, IsFound}
-use Rattle.tcp_norm.specs.Passing.{given}
+use Rattle.tcp_norm.specs.RuleRows.{options_sent, is_live, c_probe, mended_by, dropped_by, differ}
+use Rattle.tcp_norm.specs.EmittedPackets.{packet_by, probe_packets, segment_anew, bare_segment, flags_cleared}
+use Rattle.tcp_norm.specs.RuleViews.{View, view_of}
+use Rattle.tcp_norm.specs.working.InwardSegments.{bare_read, passed}
+use Rattle.tcp_norm.specs.working.RewrittenSegments.{anew_segment}
+use Rattle.tcp_norm.specs.working.Rulings.{probe_frames, IsRewritten, refused_by, IsFound}
+use Rattle.tcp_norm.specs.PassedPackets.{given}
 use Rattle.tcp_norm.specs.declared.arrival.Arrival.{Arrival}
-use Rattle.tcp_norm.specs.declared.ruling.Passage.{Passage}
-use Rattle.tcp_norm.specs.Live.{Live}
-use Rattle.tcp_norm.specs.declared.ruling.Refusal.{Refusal}
+use Rattle.tcp_norm.specs.declared.step.Passage.{Passage}
+use Rattle.tcp_norm.specs.working.LiveSlots.{Live}
+use Rattle.tcp_norm.specs.declared.step.Refusal.{Refusal}
 use Rattle.tcp_norm.specs.declared.state.TcpNorm.{TcpNorm}
 use Rattle.tcp_norm.specs.declared.step.Step.{Step}
 use Rattle.tcp_norm.specs.Outcomes.{outcome_at}
-use Rattle.tcp_norm.specs.Standing.{StandsFor}
-use Rattle.tcp_norm.specs.Steps.{IsStep, Does, continued_in, reopened_by}
-use Rattle.tcp_norm.specs.Streams.{bare_rows, header_rows}
-use Rattle.tcp_norm.proofs.StreamRules.{not_true}
+use Rattle.tcp_norm.specs.TableAndStore.{StandsFor}
+use Rattle.tcp_norm.specs.working.EraSteps.{IsStep, Does, continued_in, reopened_by}
+use Rattle.tcp_norm.specs.working.RewriteTests.{bare_rows, header_rows}
+use Rattle.tcp_norm.proofs.SegmentRules.{not_true}
 use Rattle.tcp_norm.proofs.BareSegments.{bare_is_read, bare_anew, bare_mended, Comes, beside_are}
 use Rattle.tcp_norm.proofs.Packets.{bare_fits}
 use Rattle.tcp_norm.proofs.InboundSegments.{probe_is, in_dropped, in_outcome, in_does, packets_live, of_live, flags_are}

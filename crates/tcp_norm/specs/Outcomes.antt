@@ -11,12 +11,12 @@ use Rattle.rule_book.specs.declared.entry.Reason.{Reason}
 use Rattle.rule_book.specs.declared.entry.Reason.TheVariants as reasons
 use Rattle.rule_book.specs.declared.entry.Verdict.{Verdict}
 use Rattle.rule_book.specs.declared.entry.Verdict.TheVariants as verdicts
-use Rattle.norm_settings.specs.Settings.{PlainSettings}
+use Rattle.norm_settings.specs.SettingValues.{PlainSettings}
 use Rattle.ip_rules.specs.Datagrams.{Datagram}
 use Rattle.tcp_norm.specs.Calls.{Call, expiry, datagram, Outcome, segment_in}
-use Rattle.tcp_norm.specs.Views.{View, view_of, idle_at}
-use Rattle.tcp_norm.specs.Rows.{begins, reopens, t_full, dropped_by, mended_by, noted}
-use Rattle.tcp_norm.specs.Emits.{probe_dropped, probe_packets, packets_passed}
+use Rattle.tcp_norm.specs.RuleViews.{View, view_of, idle_at}
+use Rattle.tcp_norm.specs.RuleRows.{begins, reopens, t_full, dropped_by, mended_by, noted}
+use Rattle.tcp_norm.specs.EmittedPackets.{probe_dropped, probe_packets, packets_passed}
 
 -- fix where a rule rewrites it, else pass
 abbrev pub verdict_of : List Rule → Verdict

@@ -1,9 +1,8 @@
 //! Eras begin and end.
-use crate::flow::Flow;
-use crate::key::EraKey;
-use crate::spare::list_spare;
+use crate::key::{EraKey, Flow};
 use crate::state::TcpNorm;
 use crate::step::{Place, Room};
+use crate::update::list_spare;
 use era_state::Era;
 use linked_table::{Hashed, Slot};
 use retain_store::ChainId;
@@ -13,22 +12,23 @@ use wire_base::FlowKey;
 impl TcpNorm {
     ghost use Rattle.std.specs.Prelude.{◌≡◌, ◌+◌, ◌-◌, ◌<◌, ℕ, IfSome, IfNone, None, List, [], ◌∷◌, Option, Some, is_some, ◌++◌, length, if◌then◌else◌};
     ghost use Rattle.wire_base.specs.Segments.{Written};
-    ghost use Rattle.norm_settings.specs.Settings.{PlainSettings};
-    ghost use Rattle.linked_table.specs.Table.{HasNone, IsIn, Wherever};
+    ghost use Rattle.norm_settings.specs.SettingValues.{PlainSettings};
+    ghost use Rattle.linked_table.specs.EntryTable.{HasNone, IsIn, Wherever};
     ghost use Rattle.linked_table.specs.Listing.{first_of};
     ghost use Rattle.ip_rules.specs.Datagrams.{Datagram};
     ghost use Rattle.tcp_norm.specs.Calls.{Call, Outcome, datagram, key_of, Alive, without};
-    ghost use Rattle.tcp_norm.specs.Views.{view_of};
-    ghost use Rattle.tcp_norm.specs.Colds.{IsUnheard};
-    ghost use Rattle.tcp_norm.specs.Held.{kept_at};
-    ghost use Rattle.tcp_norm.specs.Near.{IsNear};
-    ghost use Rattle.tcp_norm.specs.Steps.{Does, Evicts, IsRoom, Places, began, place_in, reopened_by};
-    ghost use Rattle.tcp_norm.specs.Standing.{IsAbsent, IsNew, IsReady, StandsFor, Holds, Begins, ChangesTables};
+    ghost use Rattle.tcp_norm.specs.RuleViews.{view_of};
+    ghost use Rattle.tcp_norm.specs.working.ColdDatagrams.{IsUnheard};
+    ghost use Rattle.tcp_norm.specs.HeldOctets.{kept_at};
+    ghost use Rattle.tcp_norm.specs.working.EraBounds.{IsNear};
+    ghost use Rattle.tcp_norm.specs.working.EraSteps.{Does, Evicts, IsRoom, Places, began, place_in, reopened_by};
+    ghost use Rattle.tcp_norm.specs.working.TableChanges.{IsAbsent, IsNew, IsReady, Holds, Begins, ChangesTables};
+    ghost use Rattle.tcp_norm.specs.TableAndStore.{StandsFor};
     ghost use Rattle.tcp_norm.specs.declared.key.EraKey.{EraKey};
-    ghost use Rattle.tcp_norm.specs.declared.flow.Flow.{Flow};
-    ghost use Rattle.tcp_norm.specs.Rulings.{IsCounted};
+    ghost use Rattle.tcp_norm.specs.declared.key.Flow.{Flow};
+    ghost use Rattle.tcp_norm.specs.working.Rulings.{IsCounted};
     ghost use Rattle.era_state.specs.Eras as eras;
-    ghost use Rattle.linked_table.specs.Table as table;
+    ghost use Rattle.linked_table.specs.EntryTable as table;
 
     /// Returns where an era can begin, or `None` if as many are live as may be and each of them
     /// holds octets.
@@ -72,7 +72,7 @@ impl TcpNorm {
     #[inline(always)]
     fn evict(&mut self, slot: Slot) -> Ended
         requires { Some slot ≡ first_of self.old.spare.slots }
-        ensures evicts { (lives : List Alive) (segments : ℕ → List Written) → Holds self.old lives segments → Evicts self.old self.new lives segments (Some result) }
+        ensures evicts { (lives : List Alive) (segments : ℕ → List Written) → Holds self.old lives segments → Evicts self.old self.new lives segments result }
         ensures absent { (key : EraKey) → HasNone self.old.table.entries key → HasNone self.new.table.entries key }
         ensures room { length self.new.table.entries < self.new.table.max }
         ensures tables { ChangesTables self.old self.new self.old.begun }
@@ -101,7 +101,7 @@ impl TcpNorm {
     ) -> Place
         requires room { IsRoom self.old.table.entries self.old.table.max self.old.spare.slots room }
         requires fresh { IsNew self.old hashed.now.key.0 era.now }
-        ensures places { (lives : List Alive) (segments : ℕ → List Written) → Holds self.old lives segments → Places self.old self.new hashed.now.key.0 era.now now lives segments (Some result) }
+        ensures places { (lives : List Alive) (segments : ℕ → List Written) → Holds self.old lives segments → Places self.old self.new hashed.now.key.0 era.now now lives segments result }
         ensures tables { ChangesTables self.old self.new (self.old.begun + 1) }
     {
         match room {

@@ -1,17 +1,19 @@
 //! Eras end for being idle.
-use crate::flow::Flow;
+use crate::key::Flow;
 use crate::state::TcpNorm;
 use rule_book::{Ended, Entry, Reason};
 
 impl TcpNorm {
     ghost use Rattle.std.specs.Prelude.{◌≡◌, ◌+◌, ◌≤◌, nat_lt, ℕ, List, [], ◌∷◌};
     ghost use Rattle.wire_base.specs.Segments.{Written};
-    ghost use Rattle.norm_settings.specs.Settings.{PlainSettings};
+    ghost use Rattle.norm_settings.specs.SettingValues.{PlainSettings};
     ghost use Rattle.tcp_norm.specs.Calls.{Alive, Call, segments};
-    ghost use Rattle.tcp_norm.specs.Views.{idle_at};
-    ghost use Rattle.tcp_norm.specs.Steps.{EndsIdle, idled};
+    ghost use Rattle.tcp_norm.specs.RuleViews.{idle_at};
+    ghost use Rattle.tcp_norm.specs.working.EraSteps.{EndsIdle};
+    ghost use Rattle.tcp_norm.specs.IdleEnds.{idled};
     ghost use Rattle.tcp_norm.specs.Outcomes.{expiry_of};
-    ghost use Rattle.tcp_norm.specs.Standing.{StandsFor, Holds, ChangesTables};
+    ghost use Rattle.tcp_norm.specs.TableAndStore.{StandsFor};
+    ghost use Rattle.tcp_norm.specs.working.TableChanges.{Holds, ChangesTables};
 
     /// Ends the eras, at most two, in which nothing was written for more than `idle` seconds, the
     /// least recently written first, and appends them to the entry.
@@ -79,4 +81,4 @@ fn add_idle(entry: &mut Entry, ended: Ended)
 }
 
 ghost use Rattle.std.specs.Prelude.{◌≡◌, ◌++◌, [], ◌∷◌};
-ghost use Rattle.tcp_norm.specs.Passing.{HasRoom};
+ghost use Rattle.tcp_norm.specs.working.PassingRoom.{HasRoom};

@@ -1,29 +1,37 @@
-//! A datagram: its ruling, its entry and its frames.
-use crate::arrival::Arrival;
-use crate::brief::Brief;
+//! Packets of either side, and the judgment of an inbound one by its connection's live era.
+mod cold;
+mod reset;
+mod stream;
+mod syn;
+
+use crate::arrival::{Arrival, inward_key};
 use crate::emit::put_given;
-use crate::report::{report, report_dropped, report_within};
-use crate::ruling::Ruling;
+use crate::key::EraKey;
 use crate::state::TcpNorm;
 use edge_io::Outbox;
 use ip_rules::IpPacket;
+use linked_table::Slot;
 use rule_book::Entry;
 use tcp_codec::Tcp;
+use wire_base::Side;
 
 impl TcpNorm {
     ghost use Rattle.std.specs.Prelude.{◌≡◌, ◌-◌, ◌<◌, ◌≤◌, ◌^◌, List, [], ◌∷◌, length};
     ghost use Rattle.wire_base.specs.declared.address.Side.TheVariants.{Inward, Outward};
-    ghost use Rattle.wire_base.specs.Sums.{pseudo_sum};
-    ghost use Rattle.tcp_codec.specs.Header.{fields_of};
-    ghost use Rattle.norm_settings.specs.Settings.{PlainSettings};
+    ghost use Rattle.wire_base.specs.Checksums.{pseudo_sum};
+    ghost use Rattle.tcp_codec.specs.HeaderFields.{fields_of};
+    ghost use Rattle.norm_settings.specs.SettingValues.{PlainSettings};
     ghost use Rattle.ip_rules.specs.Datagrams.{Datagram, frames_of, IsDatagram};
     ghost use Rattle.tcp_norm.specs.Calls.{Call};
-    ghost use Rattle.tcp_norm.specs.Views.{view_of};
-    ghost use Rattle.tcp_norm.specs.Heads.{IsHead};
+    ghost use Rattle.tcp_norm.specs.RuleViews.{view_of};
+    ghost use Rattle.tcp_norm.specs.SegmentHeads.{IsHead};
     ghost use Rattle.tcp_norm.specs.Outcomes.{call_of, outcome_at};
-    ghost use Rattle.tcp_norm.specs.Passing.{given, IsUnsent, Reports};
-    ghost use Rattle.tcp_norm.specs.Standing.{StandsFor};
+    ghost use Rattle.tcp_norm.specs.PassedPackets.{given, IsUnsent, Reports};
+    ghost use Rattle.tcp_norm.specs.working.PassingRoom.{HasRoom, IsBlank};
+    ghost use Rattle.tcp_norm.specs.TableAndStore.{StandsFor};
+    ghost use Rattle.tcp_norm.specs.working.TableChanges.{IsReady};
     ghost use Rattle.wire_base.specs.declared.limits.TheConstants.{MAX_FRAME, MAX_LINK, MAX_PAYLOAD};
+    ghost use Rattle.tcp_norm.specs.working.Rulings.{IsLiveIn, IsOutward, Answers};
 
     /// Handles an inbound datagram: it continues its era, reopens or begins one, a host is asked
     /// about it, or a rule drops it. A probe may be sent after a reset, and for one that is
@@ -96,20 +104,63 @@ impl TcpNorm {
             link: link_octets,
             head: seg,
         };
-        let mut ruling = Ruling::unset();
-        match self.judge(&arrival, &mut ruling) {
-            Brief::Refused(rule, era) => {
-                report_dropped(rule, era, 0, entry);
-                false
-            }
-            Brief::Within(number) => {
-                report_within(number, &packet.fixes, entry);
-                self.emit_read(&arrival, out)
-            }
-            Brief::Ruled => {
-                report(&ruling, &arrival, entry);
-                self.emit(&ruling, &arrival, out)
-            }
+        self.judge(&arrival, out, entry)
+    }
+
+    /// Judges a segment, updates the eras, and reports and sends what becomes of it.
+    pub(crate) fn judge(
+        &mut self,
+        arrival: &Arrival<'_>,
+        out: &mut Outbox,
+        entry: &mut Entry,
+    ) -> bool
+        requires ready { IsReady self.old arrival.now.time }
+        requires outward { arrival.now.packet.now.side ≡ Outward → IsOutward arrival.now }
+        requires empty { IsBlank out.old }
+        requires ended { HasRoom entry.old }
+        ensures { Answers arrival.now self.old self.new entry.old entry.new out.new result }
+    {
+        match arrival.packet.side {
+            Side::Inward => self.judge_inward(arrival, out, entry),
+            Side::Outward => self.judge_outward(arrival, out, entry),
         }
+    }
+
+    // Judges an inbound segment.
+    fn judge_inward(&mut self, arrival: &Arrival<'_>, out: &mut Outbox, entry: &mut Entry) -> bool
+        requires ready { IsReady self.old arrival.now.time }
+        requires side { arrival.now.packet.now.side ≡ Inward }
+        requires empty { IsBlank out.old }
+        requires ended { HasRoom entry.old }
+        ensures { Answers arrival.now self.old self.new entry.old entry.new out.new result }
+    {
+        let hashed = self.table.hashed(EraKey(inward_key(arrival)));
+        match self.table.find_hashed(&hashed) {
+            None => self.judge_cold(&hashed, arrival, out, entry),
+            Some(slot) => self.judge_live(slot, arrival, out, entry),
+        }
+    }
+
+    // Judges a segment of the live era in this slot and updates the era.
+    fn judge_live(
+        &mut self,
+        slot: Slot,
+        arrival: &Arrival<'_>,
+        out: &mut Outbox,
+        entry: &mut Entry,
+    ) -> bool
+        requires live { IsLiveIn self.old arrival.now slot }
+        requires ready { IsReady self.old arrival.now.time }
+        requires empty { IsBlank out.old }
+        requires ended { HasRoom entry.old }
+        ensures { Answers arrival.now self.old self.new entry.old entry.new out.new result }
+    {
+        if arrival.head.flags.syn() {
+            return self.judge_syn(slot, arrival, out, entry);
+        }
+        if arrival.head.flags.rst() {
+            return self.judge_reset(slot, arrival, out, entry);
+        }
+        self.judge_stream(slot, arrival, out, entry)
     }
 }

@@ -1,9 +1,9 @@
 //! Laws of calls.
-ghost use Rattle.tcp_norm.specs.Worked.{WorkedRows};
-ghost use Rattle.tcp_norm.specs.Brought.{ClashesAreReal, NewIsBrought, NothingIsInvented};
-ghost use Rattle.tcp_norm.specs.Laws.{OthersStay, StreamsAreWritten};
-ghost use Rattle.tcp_norm.specs.Lives.{LivesAreLast, FlowsAreBounded};
-ghost use Rattle.tcp_norm.specs.Segments.{CallsAreEmitted, CleanKeepsPayload, HeldIsBounded, PacketsAreItsOwn, PacketsArePlain, ProbesAreSilent, QuotaLeavesRoom};
+ghost use Rattle.tcp_norm.specs.WorkedCases.{WorkedRows};
+ghost use Rattle.tcp_norm.specs.BroughtOctets.{ClashesAreReal, NewIsBrought, NothingIsInvented};
+ghost use Rattle.tcp_norm.specs.CallLaws.{OthersStay, StreamsAreWritten};
+ghost use Rattle.tcp_norm.specs.LiveEras.{LivesAreLast, FlowsAreBounded};
+ghost use Rattle.tcp_norm.specs.SegmentPackets.{CallsAreEmitted, CleanKeepsPayload, HeldIsBounded, PacketsAreItsOwn, PacketsArePlain, ProbesAreSilent, QuotaLeavesRoom};
 
 use era_state::laws::{
     acked_never_falls, emitted_joins, first_stays, intervals_fit, offsets_are_read,

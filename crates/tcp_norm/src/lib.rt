@@ -24,20 +24,12 @@
 
 mod arrival;
 mod begin;
-mod brief;
-mod decide;
 mod emit;
 mod expire;
-mod flow;
 mod inbound;
 mod key;
 pub mod laws;
 mod outbound;
-mod reading;
-mod report;
-mod rows;
-mod ruling;
-mod spare;
 mod state;
 mod step;
 mod update;

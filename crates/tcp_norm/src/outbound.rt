@@ -1,21 +1,17 @@
 //! Outbound packets.
 ghost use Rattle.std.specs.Prelude.{◌≡◌, ◌<◌, ◌≤◌, ◌^◌, ℕ, true, false, List, [], ◌∷◌, length};
-ghost use Rattle.era_state.specs.Read.{sent};
+ghost use Rattle.era_state.specs.SegmentFields.{sent};
 ghost use Rattle.wire_base.specs.Tcp as tcp;
 ghost use Rattle.era_state.specs.Eras as eras;
-ghost use Rattle.tcp_norm.specs.Rulings.{IsLegal};
-ghost use Rattle.ip_rules.specs.Judged.{where_holds};
+ghost use Rattle.tcp_norm.specs.working.Rulings.{IsLegal};
+ghost use Rattle.ip_rules.specs.JudgedRecord.{where_holds};
 ghost use Rattle.rule_book.specs.declared.rule.Rule.TheVariants as rules;
 
-use crate::arrival::Arrival;
-use crate::brief::{Brief, pass_by_step};
+use crate::arrival::{Arrival, note, outward_key, seg_of};
 use crate::emit::put_given;
 use crate::key::EraKey;
-use crate::reading::{outward_key, seg_of};
-use crate::rows::note;
-use crate::ruling::{Passage, Ruling};
 use crate::state::TcpNorm;
-use crate::step::Step;
+use crate::step::{Passage, Step};
 use cold_start::warm_from;
 use edge_io::Outbox;
 use era_state::laws::acked_grows_near;
@@ -29,21 +25,22 @@ use wire_base::FlowKey;
 
 impl TcpNorm {
     ghost use Rattle.std.specs.Prelude.{◌≡◌, ◌+◌, ◌-◌, ◌<◌, ◌≤◌, ◌^◌, List, [], ◌∷◌, length, true};
-    ghost use Rattle.wire_base.specs.Sums.{pseudo_sum};
+    ghost use Rattle.wire_base.specs.Checksums.{pseudo_sum};
     ghost use Rattle.wire_base.specs.declared.address.Side.TheVariants.{Outward};
-    ghost use Rattle.tcp_codec.specs.Header.{fields_of};
-    ghost use Rattle.norm_settings.specs.Settings.{PlainSettings};
+    ghost use Rattle.tcp_codec.specs.HeaderFields.{fields_of};
+    ghost use Rattle.norm_settings.specs.SettingValues.{PlainSettings};
     ghost use Rattle.ip_rules.specs.Datagrams.{Datagram, frames_of, IsDatagram};
     ghost use Rattle.tcp_norm.specs.Calls.{Call};
-    ghost use Rattle.tcp_norm.specs.Views.{view_of};
-    ghost use Rattle.tcp_norm.specs.Heads.{IsHead};
+    ghost use Rattle.tcp_norm.specs.RuleViews.{view_of};
+    ghost use Rattle.tcp_norm.specs.SegmentHeads.{IsHead};
     ghost use Rattle.tcp_norm.specs.Outcomes.{call_of, outcome_at};
-    ghost use Rattle.tcp_norm.specs.Passing.{Reports};
-    ghost use Rattle.tcp_norm.specs.Standing.{IsAbsent, IsReady, StandsFor};
-    ghost use Rattle.tcp_norm.specs.Steps.{IsMade, Makes};
-    ghost use Rattle.linked_table.specs.Table.{IsIn, Wherever};
-    ghost use Rattle.tcp_norm.specs.declared.brief.Brief.TheVariants.{Ruled};
-    ghost use Rattle.tcp_norm.specs.Rulings.{IsLegal, IsOutward, IsShort, JudgesBy};
+    ghost use Rattle.tcp_norm.specs.PassedPackets.{Reports};
+    ghost use Rattle.tcp_norm.specs.working.TableChanges.{IsAbsent, IsReady};
+    ghost use Rattle.tcp_norm.specs.TableAndStore.{StandsFor};
+    ghost use Rattle.tcp_norm.specs.working.EraSteps.{IsMade, Makes};
+    ghost use Rattle.linked_table.specs.EntryTable.{IsIn, Wherever};
+    ghost use Rattle.tcp_norm.specs.working.PassingRoom.{HasRoom, IsBlank};
+    ghost use Rattle.tcp_norm.specs.working.Rulings.{IsLegal, IsOutward, Answers};
     ghost use Rattle.wire_base.specs.declared.limits.TheConstants.{MAX_FRAME, MAX_LINK, MAX_PAYLOAD};
 
     /// Handles an outbound datagram: it continues its era, or ends, reopens or begins one.
@@ -79,11 +76,17 @@ impl TcpNorm {
     }
 
     /// Judges an outbound segment and updates the eras.
-    pub(crate) fn judge_outward(&mut self, arrival: &Arrival<'_>, ruling: &mut Ruling) -> Brief
+    pub(crate) fn judge_outward(
+        &mut self,
+        arrival: &Arrival<'_>,
+        out: &mut Outbox,
+        entry: &mut Entry,
+    ) -> bool
         requires ready { IsReady self.old arrival.now.time }
         requires outward { IsOutward arrival.now }
-        ensures judges { JudgesBy arrival.now self.old self.new result ruling.new }
-        ensures short { result ≡ Ruled → IsShort arrival.now ruling.new }
+        requires empty { IsBlank out.old }
+        requires ended { HasRoom entry.old }
+        ensures { Answers arrival.now self.old self.new entry.old entry.new out.new result }
     {
         mended_say_the_same();
         let wrong = self.limits.offload & !arrival.head.sum_right;
@@ -97,7 +100,7 @@ impl TcpNorm {
             size: 0,
             probe: None,
         };
-        pass_by_step(passage, ruling)
+        self.pass(passage, arrival, out, entry)
     }
 
     // Updates the eras with an outbound segment.

@@ -1,11 +1,10 @@
 //! The live eras of all connections, and the octets that are kept of them.
 ghost use Rattle.std.specs.Prelude.{◌≡◌, ◌≤◌, length, vec_len};
-ghost use Rattle.tcp_norm.specs.Near.{AreBounded, AreNear};
-ghost use Rattle.tcp_norm.specs.Spare.{spares};
+ghost use Rattle.tcp_norm.specs.working.EraBounds.{AreBounded, AreNear};
+ghost use Rattle.tcp_norm.specs.working.SpareSlots.{spares};
 ghost use Rattle.wire_base.specs.declared.limits.TheConstants.{MAX_PAYLOAD};
 
-use crate::flow::Flow;
-use crate::key::EraKey;
+use crate::key::{EraKey, Flow};
 use edge_io::NoMemory;
 use linked_table::{LinkedTable, Slot, SlotList};
 use norm_settings::Settings;
@@ -41,10 +40,9 @@ pub struct TcpNorm {
     pub(crate) calls: u32,
     /// The greatest time of a call, in seconds.
     pub(crate) latest: u32,
-    /// Buffer for the octets of an inbound segment that a rule rewrites, and for a segment whose
-    /// checksum is computed again.
+    /// Buffer for the octets of an inbound segment that a rule rewrites: those sent first.
     pub(crate) scratch: Vec<u8>,
-    /// Buffer for a segment that is rewritten.
+    /// Buffer for a segment that is rewritten, or whose checksum is computed again.
     pub(crate) page: Vec<u8>,
     ghost sized: { length store.chains ≡ table.max },
     ghost spare_sized: { spare.max ≡ table.max },
@@ -60,17 +58,18 @@ pub struct TcpNorm {
 impl TcpNorm {
     ghost use Rattle.std.specs.Prelude.{ℕ, ◌≢◌, ◌*◌, ◌<◌, List, [], Some, is_some, IfOk, ◌≡◌, ◌+◌, ◌-◌, ◌≤◌, length};
     ghost use Rattle.std.specs.List.{AllByRecursion, All, AllPairs};
-    ghost use Rattle.norm_settings.specs.Settings.{PlainSettings, plain_settings, AreInRange};
+    ghost use Rattle.norm_settings.specs.SettingValues.{PlainSettings, plain_settings, AreInRange};
     ghost use Rattle.ip_rules.specs.Datagrams.{Datagram};
     ghost use Rattle.tcp_norm.specs.Calls.{Call, eras, live, Outcome};
-    ghost use Rattle.tcp_norm.specs.Held.{held_all, held_in};
-    ghost use Rattle.tcp_norm.specs.Near.{IsAtMost};
-    ghost use Rattle.tcp_norm.specs.Rows.{dropped_by};
-    ghost use Rattle.tcp_norm.specs.Views.{view_of};
-    ghost use Rattle.tcp_norm.specs.Standing.{IsReady, StandsFor};
-    ghost use Rattle.linked_table.specs.Table.{IsIn, Wherever};
-    ghost use Rattle.tcp_norm.specs.Colds.{IsUnheard};
-    ghost use Rattle.tcp_norm.specs.Rulings.{IsCounted, IsHeld};
+    ghost use Rattle.tcp_norm.specs.HeldOctets.{held_all, held_in};
+    ghost use Rattle.tcp_norm.specs.QuotaBounds.{IsAtMost};
+    ghost use Rattle.tcp_norm.specs.RuleRows.{dropped_by};
+    ghost use Rattle.tcp_norm.specs.RuleViews.{view_of};
+    ghost use Rattle.tcp_norm.specs.working.TableChanges.{IsReady};
+    ghost use Rattle.tcp_norm.specs.TableAndStore.{StandsFor};
+    ghost use Rattle.linked_table.specs.EntryTable.{IsIn, Wherever};
+    ghost use Rattle.tcp_norm.specs.working.ColdDatagrams.{IsUnheard};
+    ghost use Rattle.tcp_norm.specs.working.Rulings.{IsCounted, IsHeld};
     ghost use Rattle.wire_base.specs.declared.address.FlowKey.{FlowKey};
     ghost use Rattle.rule_book.specs.declared.rule.Rule.TheVariants as rules;
 

@@ -1,6 +1,63 @@
-//! What a datagram does to the eras.
+//! What becomes of a segment, and what it does to the eras.
+ghost use Rattle.std.specs.Prelude.{◌≤◌, length, ◌≡◌, IfSome, None, Some, false};
+ghost use Rattle.rule_book.specs.declared.entry.Reason.TheVariants as reasons;
+
+use era_state::{Interval, Probe};
+use ip_rules::Fixes;
 use linked_table::Slot;
-use rule_book::{Ended, Reason};
+use rule_book::{Ended, Reason, Rule};
+
+/// A segment that this rule drops, with the number of its live era and the probe that is sent
+/// instead.
+#[derive(Clone, Copy)]
+pub(crate) struct Refusal {
+    pub(crate) rule: Rule,
+    pub(crate) era: Option<u32>,
+    pub(crate) probe: Option<Probe>,
+}
+
+/// A segment that passes: what it does to the eras, the rules that rewrite it, and the probe that
+/// is sent after it. If it is rewritten, also its sequence number, whether its FIN stays and the
+/// number of its octets, which are at the front of the scratch.
+#[derive(Drop)]
+pub(crate) struct Passage {
+    pub(crate) step: Step,
+    pub(crate) rows: Fixes,
+    pub(crate) seq: u32,
+    pub(crate) fin: bool,
+    pub(crate) size: usize,
+    pub(crate) probe: Option<Probe>,
+    ghost few: { length rows.items ≤ 9 },
+}
+
+/// A segment that belongs to no era, of which only a probe to its host is sent, and the rules that
+/// hold.
+#[derive(Drop)]
+pub(crate) struct Question {
+    pub(crate) rows: Fixes,
+    pub(crate) probe: Probe,
+    ghost few: { length rows.items ≤ 9 },
+}
+
+/// What becomes of a segment: the value of a decision, which is reported and sent where it is made
+/// (`carry_out`). One that is dropped with no probe, or passes as it was read, needs none.
+#[derive(Drop)]
+pub(crate) enum Ruling {
+    Drop(Refusal),
+    Pass(Passage),
+    Ask(Question),
+}
+
+/// The octets of an interval that an era takes of a segment of the stream. They are the segment's
+/// own if it is sent as it was read, and otherwise as many at the front of the scratch. If `whole`,
+/// the store has an octet at each of their offsets.
+#[derive(Clone, Copy)]
+pub(crate) struct Taking<'a> {
+    pub(crate) kept: Interval,
+    pub(crate) own: &'a [u8],
+    pub(crate) as_read: bool,
+    pub(crate) whole: bool,
+}
 
 /// The era that the datagram belongs to, the one that it began, the one that ended with it, and
 /// whether T_FULL holds.
@@ -26,11 +83,8 @@ pub struct Place {
     pub evicted: Option<Ended>,
 }
 
-ghost use Rattle.std.specs.Prelude.{◌≡◌, IfSome, None, Some, false};
-ghost use Rattle.rule_book.specs.declared.entry.Reason.TheVariants as reasons;
-
 impl Step {
-    ghost use Rattle.tcp_norm.specs.Steps.{began, continued_in};
+    ghost use Rattle.tcp_norm.specs.working.EraSteps.{began};
 
     // Returns the step of a segment that begins an era.
     pub(crate) fn begun(place: Place) -> Step
@@ -53,22 +107,6 @@ impl Step {
             begun: None,
             ended: None,
             full: false,
-        }
-    }
-
-    /// Returns the number of the era that the segment continues, if that is all that it does.
-    #[inline(always)]
-    pub(crate) fn continued(&self) -> Option<u32>
-        ensures { IfSome result (λ number. self.now ≡ continued_in number) }
-    {
-        match self {
-            Step {
-                era: Some(number),
-                begun: None,
-                ended: None,
-                full: false,
-            } => Some(*number),
-            _ => None,
         }
     }
 

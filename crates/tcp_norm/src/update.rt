@@ -1,35 +1,64 @@
-//! What a segment changes in its live era.
-ghost use Rattle.std.specs.Prelude.{◌≡◌, ◌+◌, ◌<◌, ◌≤◌, ◌^◌, false, true, length};
-ghost use Rattle.std.specs.List.{All};
-ghost use Rattle.wire_base.specs.Tcp as tcp;
+//! What a segment changes in its live era: its state, its octets and its slot's position.
+ghost use Rattle.std.specs.Prelude.{◌≡◌, ◌+◌, ◌<◌, ◌*◌, ℕ, length, ◌≤◌, ◌^◌, false, true};
+ghost use Rattle.std.specs.List.{count_by, range_with_len, sum_by, All};
+ghost use Rattle.retain_store.specs.Maps.{IsMap, IsWithin, chain_of, holds};
+ghost use Rattle.tcp_norm.specs.working.SpareSlots.{CanList, Relists};
 ghost use Rattle.era_state.specs.Eras.{GivesTo, acked_in, octets_in};
-ghost use Rattle.linked_table.specs.Table.{IsIn, Wherever};
-ghost use Rattle.tcp_norm.specs.Rulings.{CanPlace, HearsIn, IsLegal, PlacesOctets, SendsIn, TakesIn, TouchesIn, taken};
+ghost use Rattle.linked_table.specs.EntryTable.{IsIn, Wherever};
+ghost use Rattle.tcp_norm.specs.working.Rulings.{CanPlace, HearsIn, IsLegal, PlacesOctets, SendsIn, TakesIn, TouchesIn, taken};
+ghost use Rattle.wire_base.specs.Tcp as tcp;
 
-use crate::flow::Flow;
-use crate::key::EraKey;
-use crate::ruling::Taking;
-use crate::spare::{chain_is_counted, list_spare};
+use crate::key::{EraKey, Flow};
 use crate::state::TcpNorm;
+use crate::step::Taking;
 use era_state::laws::{acked_never_falls, first_stays, frame_octets, intervals_fit};
 use era_state::{Era, Interval, Offered, Seg};
-use linked_table::{LinkedTable, Slot};
+use linked_table::{LinkedTable, Slot, SlotList};
 use retain_store::{ChainId, Retain};
 use wire_base::FlowKey;
+
+/// Lists a slot that was touched: as the last one, if it holds no octet, and otherwise not.
+pub(crate) fn list_spare(spare: &mut SlotList, store: &Retain, slot: Slot)
+    requires listed { CanList spare.old store.now slot }
+    ensures { Relists spare.old spare.new store.now slot }
+{
+    if store.held(ChainId(slot.0)) == 0 {
+        spare.put_last(slot);
+    } else {
+        spare.take_out(slot);
+    }
+}
+
+/// States that a chain is a map, and how many blocks it has.
+pub(crate) fn chain_is_counted(store: &Retain, chain: ChainId)
+    requires { chain.0 < length store.now.chains }
+    ensures map { IsMap (chain_of store.now chain.0) }
+    ensures held { (n : ℕ) → IsWithin (chain_of store.now chain.0) (256 * n) →
+        length (chain_of store.now chain.0) ≡ count_by (holds (chain_of store.now chain.0)) (range_with_len 0 n) }
+{
+    let _held = store.held(chain);
+}
+
+/// States that each cell is free or holds a block of one chain.
+pub(crate) fn cells_are_counted(store: &Retain)
+    ensures total { store.now.free + sum_by length store.now.chains ≡ store.now.cells }
+{
+    let _free = store.free();
+}
 
 impl TcpNorm {
     ghost use Rattle.std.specs.Prelude.{◌≡◌, ◌<◌, ℕ, List, ◌∷◌, ◌+◌, true, false, length};
     ghost use Rattle.wire_base.specs.Tcp as tcp;
     ghost use Rattle.wire_base.specs.declared.address.FlowKey.{FlowKey};
-    ghost use Rattle.linked_table.specs.Table.{IsIn, Wherever};
-    ghost use Rattle.tcp_norm.specs.Calls.{datagram, segment_in};
-    ghost use Rattle.tcp_norm.specs.Steps.{Does, Sends, continued_in};
-    ghost use Rattle.tcp_norm.specs.declared.flow.Flow.{Flow};
-    ghost use Rattle.norm_settings.specs.Settings.{PlainSettings};
+    ghost use Rattle.linked_table.specs.EntryTable.{IsIn, Wherever};
+    ghost use Rattle.tcp_norm.specs.Calls.{datagram, segment_in, Call, Outcome};
+    ghost use Rattle.tcp_norm.specs.working.EraSteps.{Does, Sends, continued_in};
+    ghost use Rattle.tcp_norm.specs.declared.key.Flow.{Flow};
+    ghost use Rattle.norm_settings.specs.SettingValues.{PlainSettings};
     ghost use Rattle.ip_rules.specs.Datagrams.{Datagram};
-    ghost use Rattle.tcp_norm.specs.Calls.{Call, Outcome};
-    ghost use Rattle.tcp_norm.specs.Standing.{IsReady, StandsFor};
-    ghost use Rattle.tcp_norm.specs.Rulings.{IsCounted, IsHeld, IsLegal, Brings, CanTake, Extends, Hears, Reopens};
+    ghost use Rattle.tcp_norm.specs.working.TableChanges.{IsReady};
+    ghost use Rattle.tcp_norm.specs.TableAndStore.{StandsFor};
+    ghost use Rattle.tcp_norm.specs.working.Rulings.{IsCounted, IsHeld, IsLegal, Brings, CanTake, Extends, Hears, Reopens};
     ghost use Rattle.wire_base.specs.Segments.{Written};
 
     /// Changes the live era in this slot by an inbound SYN that neither reopens it nor is dropped.

@@ -1,9 +1,9 @@
 use Rattle.std.proofs.Common.{◌≡◌, ◌<◌, ◌∙◌, ◌++◌, ℕ, List, [], ◌∷◌, length, sym, ap, subst, arith, append-nil}
 use Rattle.std.proofs.lemmas.Grind.{common_steps}
-use Rattle.reset_probe.specs.Write.{probe_octets}
+use Rattle.reset_probe.specs.ProbePackets.{probe_octets}
 use Rattle.edge_io.specs.Outboxes.{last_frame, extended}
 use Rattle.ip_rules.specs.Datagrams.{raised}
-use Rattle.tcp_norm.specs.Rulings.{probe_frames}
+use Rattle.tcp_norm.specs.working.Rulings.{probe_frames}
 use Rattle.tcp_norm.proofs.InboundSegments.{extended_last, last_of}
 use Rattle.tcp_norm.proofs.emit.put_probe.Goals as goal
 

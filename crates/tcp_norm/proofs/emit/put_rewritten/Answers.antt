@@ -1,8 +1,8 @@
 use Rattle.std.proofs.Common.{◌≡◌, ◌∙◌, ◌++◌, ℕ, List, [], ◌∷◌, length, take, drop, ap}
 use Rattle.std.proofs.Math.Seq.{take-append_seam}
-use Rattle.ipv4_codec.specs.Write.{plain_header}
-use Rattle.tcp_codec.specs.Write.{segment_octets}
-use Rattle.tcp_norm.specs.Anews.{rewritten}
+use Rattle.ipv4_codec.specs.WrittenHeader.{plain_header}
+use Rattle.tcp_codec.specs.WrittenSegment.{segment_octets}
+use Rattle.tcp_norm.specs.working.RewrittenSegments.{rewritten}
 use Rattle.tcp_norm.proofs.emit.put_rewritten.Goals as goal
 
 pub returns : goal.returns

@@ -1,4 +1,4 @@
-use Rattle.tcp_norm.proofs.BroughtOctets.{clashes_are_real}
+use Rattle.tcp_norm.proofs.Clashes.{clashes_are_real}
 use Rattle.tcp_norm.proofs.laws.clashes_are_real.Goals as goal
 
 pub returns : goal.returns

@@ -1,6 +1,6 @@
 use Rattle.std.proofs.Common.{refl, arith}
 use Rattle.ip_rules.specs.Datagrams.{IsPacketOf}
-use Rattle.tcp_norm.specs.Rows.{mended_by}
+use Rattle.tcp_norm.specs.RuleRows.{mended_by}
 use Rattle.tcp_norm.proofs.Packets.{each_packet, own_packet}
 use Rattle.tcp_norm.proofs.laws.packets_are_its_own.Goals as goal
 

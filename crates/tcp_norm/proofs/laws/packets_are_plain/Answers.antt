@@ -2,8 +2,8 @@ use Rattle.std.proofs.Common.{◌++◌, [], refl, arith}
 use Rattle.wire_base.specs.Tcp as tcp
 use Rattle.wire_base.specs.Plain.{Plain}
 use Rattle.ip_rules.specs.Datagrams.{Packet, head_sent}
-use Rattle.tcp_norm.specs.Rows.{mended_by}
-use Rattle.tcp_norm.specs.Emits.{packet_by}
+use Rattle.tcp_norm.specs.RuleRows.{mended_by}
+use Rattle.tcp_norm.specs.EmittedPackets.{packet_by}
 use Rattle.tcp_norm.proofs.Packets.{each_packet, own_packet, plain_packet, own_plain}
 use Rattle.tcp_norm.proofs.laws.packets_are_plain.Goals as goal
 

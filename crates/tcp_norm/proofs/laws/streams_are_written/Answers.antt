@@ -1,13 +1,12 @@
 use Rattle.std.proofs.Common.{refl, sym, ap, ◌∙◌}
 use Rattle.era_state.specs.Offsets.{number_in}
 use Rattle.era_state.specs.Quantities.{end_of}
-use Rattle.tcp_norm.specs.Rows.{clashes}
+use Rattle.tcp_norm.specs.RuleRows.{clashes}
 use Rattle.tcp_norm.specs.Calls.{segment_in}
-use Rattle.tcp_norm.proofs.StreamRules.{of_stream}
+use Rattle.tcp_norm.proofs.SegmentRules.{of_stream, header_mended}
 use Rattle.tcp_norm.proofs.EraWrites.{stream_writes}
 use Rattle.tcp_norm.proofs.StreamFrames.{writes_frame}
 use Rattle.tcp_norm.proofs.laws.streams_are_written.Goals as goal
-use Rattle.tcp_norm.proofs.HeaderRules.{header_mended}
 
 pub returns : goal.returns
 returns c settings v d e i era now named was stream kept quota room number fits =

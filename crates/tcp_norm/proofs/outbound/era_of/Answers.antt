@@ -1,6 +1,6 @@
 use Rattle.std.proofs.Common.{ℕ, List, [], replicate, ◌∙◌, arith}
 use Rattle.std.proofs.lemmas.List.{length-replicate}
-use Rattle.era_state.specs.Read.{sent}
+use Rattle.era_state.specs.SegmentFields.{sent}
 use Rattle.tcp_norm.proofs.outbound.era_of.Goals as goal
 
 pub returns-in-Some-clause-acked : goal.returns-in-Some-clause-acked

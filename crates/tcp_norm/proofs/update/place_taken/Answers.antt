@@ -1,5 +1,5 @@
 use Rattle.std.proofs.Common.{length, take, cond, sym, subst}
-use Rattle.tcp_norm.specs.Rulings.{PlacesOctets}
+use Rattle.tcp_norm.specs.working.Rulings.{PlacesOctets}
 use Rattle.tcp_norm.proofs.update.place_taken.Goals as goal
 
 pub returns-then-taking : goal.returns-then-taking

@@ -1,6 +1,6 @@
 use Rattle.std.proofs.Common.{◌+◌, ◌<◌, ◌^◌}
 use Rattle.era_state.specs.Eras.{GivesTo, octets_in}
-use Rattle.tcp_norm.specs.declared.flow.Flow.{Flow}
+use Rattle.tcp_norm.specs.declared.key.Flow.{Flow}
 use Rattle.tcp_norm.proofs.EraTable.{value_in, in_valued}
 use Rattle.tcp_norm.proofs.update.take_in.Goals as goal
 

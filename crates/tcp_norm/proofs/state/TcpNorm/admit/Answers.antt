@@ -1,9 +1,9 @@
 use Rattle.std.proofs.Common.{◌≡◌, ◌+◌, ◌∙◌, ℕ, List, [], ◌∷◌, ◌++◌, length, Some, refl, sym, ap, ap₂, subst, arith, nat_le}
 use Rattle.wire_base.specs.Segments.{Written}
 use Rattle.tcp_norm.specs.Calls.{datagram, segments, eras, without}
-use Rattle.tcp_norm.specs.Views.{view_of}
-use Rattle.tcp_norm.specs.Steps.{began, place_of, one, number_ended, first_empty}
-use Rattle.tcp_norm.specs.Standing.{Holds}
+use Rattle.tcp_norm.specs.RuleViews.{view_of}
+use Rattle.tcp_norm.specs.working.EraSteps.{began, place_of, one, number_ended, first_empty}
+use Rattle.tcp_norm.specs.working.TableChanges.{Holds}
 use Rattle.tcp_norm.proofs.CallEffects.{begins_then, begins_with, ended_by_place, begun_place, tables_go_on}
 use Rattle.tcp_norm.proofs.EraTable.{opened_kept}
 use Rattle.tcp_norm.proofs.state.TcpNorm.admit.Goals as goal
@@ -25,4 +25,4 @@ returns-clause-stands c settings calls d w o st key stood none does =
     (tables_go_on settings self _ c.place.new.self c.args.now 1 _ c.place.ensures.tables refl (opened_kept settings self _ st.opened refl refl refl refl) refl refl c.requires.ready.later)
     places.given named named (ended_by_place p.evicted) does
     (subst (λ k. Holds c.place.new.self (without (one (number_ended p.evicted)) (eras calls) ++ record { number = self.begun + 1; key = k; touched = c.args.now } ∷ []) later) (sym key)
-    (places.some later (begins_with settings self calls c.args.now d w o (began p) c.args.era.now st named does stood none)))
+    (places.holds later (begins_with settings self calls c.args.now d w o (began p) c.args.era.now st named does stood none)))

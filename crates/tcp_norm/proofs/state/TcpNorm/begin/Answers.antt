@@ -1,9 +1,9 @@
 use Rattle.std.proofs.Common.{◌+◌, [], ◌∷◌, ◌++◌, sym, ap, subst, refl}
-use Rattle.linked_table.specs.Table as table
-use Rattle.tcp_norm.specs.declared.flow.Flow.{Flow}
+use Rattle.linked_table.specs.EntryTable as table
+use Rattle.tcp_norm.specs.declared.key.Flow.{Flow}
 use Rattle.tcp_norm.specs.declared.key.EraKey.{EraKey}
-use Rattle.tcp_norm.specs.Standing.{HoldsFor}
-use Rattle.tcp_norm.specs.Near.{AreNear}
+use Rattle.tcp_norm.specs.TableAndStore.{HoldsFor}
+use Rattle.tcp_norm.specs.working.EraBounds.{AreNear}
 use Rattle.tcp_norm.proofs.EraTable.{begin_holds, opened_kept}
 use Rattle.tcp_norm.proofs.EraWrites.{near_added}
 use Rattle.tcp_norm.proofs.SpareEras.{added_listed}

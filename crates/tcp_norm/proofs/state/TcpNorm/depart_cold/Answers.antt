@@ -2,8 +2,8 @@ use Rattle.std.proofs.Common.{false, true, [], ◌∷◌, None, sym, subst}
 use Rattle.wire_base.specs.Segments.{Written}
 use Rattle.era_state.specs.Eras as era
 use Rattle.tcp_norm.specs.Calls.{segment_in}
-use Rattle.tcp_norm.specs.Views.{view_of}
-use Rattle.tcp_norm.specs.Steps.{IsStep, Does, began}
+use Rattle.tcp_norm.specs.RuleViews.{view_of}
+use Rattle.tcp_norm.specs.working.EraSteps.{IsStep, Does, began}
 use Rattle.tcp_norm.proofs.Connections.{view_cold, step_stray, step_full, step_begun}
 use Rattle.tcp_norm.proofs.CallEffects.{none_kept, outside_unheard}
 use Rattle.tcp_norm.proofs.state.TcpNorm.depart_cold.Goals as goal

@@ -2,13 +2,13 @@ use Rattle.std.proofs.Common.{◌≡◌, ◌+◌, ◌∙◌, false, [], ◌∷�
 use Rattle.wire_base.specs.Segments.{Written}
 use Rattle.rule_book.specs.declared.entry.Reason.TheVariants as reasons
 use Rattle.era_state.specs.Quantities.{octets_of}
-use Rattle.era_state.specs.Read.{sent}
+use Rattle.era_state.specs.SegmentFields.{sent}
 use Rattle.era_state.specs.Rules.{reopens_outward}
 use Rattle.era_state.specs.Eras as era
-use Rattle.tcp_norm.specs.Live.{Live}
+use Rattle.tcp_norm.specs.working.LiveSlots.{Live}
 use Rattle.tcp_norm.specs.Calls.{segments, eras, segment_in}
-use Rattle.tcp_norm.specs.Views.{view_of}
-use Rattle.tcp_norm.specs.Steps.{IsStep, Does, continued_in, reopened_by}
+use Rattle.tcp_norm.specs.RuleViews.{view_of}
+use Rattle.tcp_norm.specs.working.EraSteps.{IsStep, Does, continued_in, reopened_by}
 use Rattle.tcp_norm.proofs.CallEffects.{ends_within, none_kept, tables_go_on}
 use Rattle.tcp_norm.proofs.InboundSegments.{held_live}
 use Rattle.tcp_norm.proofs.Connections.{step_next, step_reset, step_reopened}

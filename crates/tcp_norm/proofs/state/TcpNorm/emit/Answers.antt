@@ -1,7 +1,7 @@
 use Rattle.std.proofs.Common.{◌≡◌, ◌∙◌, ◌∷◌, ◌++◌, length, Some, refl, sym, ap, subst, arith}
 use Rattle.ip_rules.specs.Datagrams.{goes_in, frames_of, raised}
-use Rattle.tcp_norm.specs.Emits.{packet_by, probe_packets}
-use Rattle.tcp_norm.specs.Rulings.{probe_frames, outcome_of, IsCarried, IsShort}
+use Rattle.tcp_norm.specs.EmittedPackets.{packet_by, probe_packets}
+use Rattle.tcp_norm.specs.working.Rulings.{probe_frames, outcome_of, IsCarried, IsShort}
 use Rattle.tcp_norm.proofs.SynsAndResets.{given_one, inward_of, probes_are}
 use Rattle.tcp_norm.proofs.state.TcpNorm.emit.Goals as goal
 

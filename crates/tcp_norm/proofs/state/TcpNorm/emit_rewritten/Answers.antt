@@ -1,7 +1,7 @@
 use Rattle.std.proofs.Common.{◌≤◌, ◌∙◌, take, sym, ap, subst, arith}
 use Rattle.tcp_codec.specs.declared.header.Tcp.{Tcp}
 use Rattle.ip_rules.specs.Datagrams.{goes_in}
-use Rattle.tcp_norm.specs.Anews.{rewritten}
+use Rattle.tcp_norm.specs.working.RewrittenSegments.{rewritten}
 use Rattle.tcp_norm.proofs.InboundSegments.{head_given, frame_rewritten}
 use Rattle.tcp_norm.proofs.OutboundSegments.{frame_mended}
 use Rattle.tcp_norm.proofs.state.TcpNorm.emit_rewritten.Goals as goal

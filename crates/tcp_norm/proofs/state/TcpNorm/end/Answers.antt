@@ -1,12 +1,12 @@
 use Rattle.std.proofs.Common.{[], ◌∷◌, length, refl, sym, ap, subst, arith}
-use Rattle.linked_table.specs.Table as table
+use Rattle.linked_table.specs.EntryTable as table
 use Rattle.retain_store.specs.Maps.{Store}
 use Rattle.retain_store.proofs.Blocks.{others_same}
-use Rattle.tcp_norm.specs.declared.flow.Flow.{Flow}
+use Rattle.tcp_norm.specs.declared.key.Flow.{Flow}
 use Rattle.tcp_norm.specs.declared.key.EraKey.{EraKey}
 use Rattle.tcp_norm.specs.Calls.{without}
-use Rattle.tcp_norm.specs.Standing.{HoldsFor}
-use Rattle.tcp_norm.specs.Near.{AreNear}
+use Rattle.tcp_norm.specs.TableAndStore.{HoldsFor}
+use Rattle.tcp_norm.specs.working.EraBounds.{AreNear}
 use Rattle.tcp_norm.proofs.EraTable.{end_holds, opened_kept}
 use Rattle.tcp_norm.proofs.EraWrites.{near_left}
 use Rattle.tcp_norm.proofs.Lists.{numbered}

@@ -1,7 +1,7 @@
 use Rattle.std.proofs.Common.{◌∙◌, Some, sym, ap, subst}
 use Rattle.rule_book.specs.declared.entry.Reason.TheVariants as reasons
-use Rattle.tcp_norm.specs.Standing.{Holds}
-use Rattle.tcp_norm.specs.Steps.{EndsIdle}
+use Rattle.tcp_norm.specs.working.TableChanges.{Holds}
+use Rattle.tcp_norm.specs.working.EraSteps.{EndsIdle}
 use Rattle.tcp_norm.proofs.CallEffects.{without_none}
 use Rattle.tcp_norm.proofs.EraCounts.{oldest_first, oldest_none, if_is, if_is_not}
 use Rattle.tcp_norm.proofs.EraTable.{at_slot}

@@ -1,12 +1,11 @@
 use Rattle.std.proofs.Common.{◌≡◌, ◌∙◌, ◌∷◌, length, Some, sym, subst, arith, ap}
 use Rattle.std.specs.List.{AllByRecursion}
 use Rattle.std.proofs.lemmas.List.Elements.{recursion_from_All}
-use Rattle.linked_table.specs.Table as table
-use Rattle.tcp_norm.specs.declared.flow.Flow.{Flow}
+use Rattle.linked_table.specs.EntryTable as table
+use Rattle.tcp_norm.specs.declared.key.Flow.{Flow}
 use Rattle.tcp_norm.specs.declared.key.EraKey.{EraKey}
 use Rattle.rule_book.specs.declared.entry.Reason.TheVariants as reasons
 use Rattle.linked_table.proofs.Lists.{all_after}
-use Rattle.tcp_norm.proofs.CallEffects.{given_some}
 use Rattle.tcp_norm.proofs.SpareEras.{ended_at, found, first_is}
 use Rattle.tcp_norm.proofs.EraTable.{at_slot}
 use Rattle.tcp_norm.proofs.Lists.{none_left, shorter}
@@ -32,7 +31,7 @@ returns-clause-evicts c lives segments h =
     record {
       answer = sym (first_is lives segments _ self.table.entries self.store first.before first.entry first.after h first.splits first.earlier first.passes
           ∙ (ap (λ (f : Flow). Some (ended_at segments f.number)) is ∙ ap (λ n. Some (record { era = flow.number; reason = reasons.Evicted; octets = Some n })) (sym told)));
-      given = λ number same. given_some flow.number number at.given same;
+      given = at.given;
       left = c.end.ensures.holds lives segments flow h valued;
     }
 

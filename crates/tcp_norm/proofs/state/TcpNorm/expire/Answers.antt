@@ -2,8 +2,10 @@ use Rattle.std.proofs.Common.{◌∙◌, ℕ, List, [], ◌∷◌, ◌++◌, sym
 use Rattle.rule_book.specs.declared.entry.Entry.{Entry}
 use Rattle.wire_base.specs.Segments.{Written}
 use Rattle.tcp_norm.specs.Calls.{expiry, eras, segments, without}
-use Rattle.tcp_norm.specs.Steps.{first_old, idled}
-use Rattle.tcp_norm.specs.Standing.{StandsFor, Holds}
+use Rattle.tcp_norm.specs.working.EraSteps.{first_old}
+use Rattle.tcp_norm.specs.IdleEnds.{idled}
+use Rattle.tcp_norm.specs.TableAndStore.{StandsFor}
+use Rattle.tcp_norm.specs.working.TableChanges.{Holds}
 use Rattle.tcp_norm.proofs.CallEffects.{without_none}
 use Rattle.tcp_norm.proofs.EraCounts.{idle_zero, idle_one, idle_two, expired, without_two}
 use Rattle.tcp_norm.proofs.EraTable.{opened_kept, then_changes}

@@ -1,9 +1,9 @@
 use Rattle.std.proofs.Common.{[], ◌∷◌, refl, sym, ap, subst}
-use Rattle.linked_table.specs.Table as table
+use Rattle.linked_table.specs.EntryTable as table
 use Rattle.era_state.specs.Eras as era
-use Rattle.era_state.specs.Read.{came}
-use Rattle.tcp_norm.specs.declared.flow.Flow.{Flow}
-use Rattle.tcp_norm.specs.Live.{Live}
+use Rattle.era_state.specs.SegmentFields.{came}
+use Rattle.tcp_norm.specs.declared.key.Flow.{Flow}
+use Rattle.tcp_norm.specs.working.LiveSlots.{Live}
 use Rattle.tcp_norm.specs.declared.key.EraKey.{EraKey}
 use Rattle.tcp_norm.specs.Calls.{segments}
 use Rattle.tcp_norm.proofs.Connections.{came_brings_none}

@@ -2,9 +2,9 @@ use Rattle.std.proofs.Common.{◌≡◌, ◌≤◌, ◌∙◌, length, sym, ap, 
 use Rattle.std.specs.List.{AllByRecursion}
 use Rattle.std.proofs.lemmas.List.{length-map}
 use Rattle.tcp_norm.specs.Calls.{Alive, eras}
-use Rattle.tcp_norm.specs.Held.{held_in}
-use Rattle.tcp_norm.specs.Near.{IsAtMost}
-use Rattle.tcp_norm.specs.Standing.{alive_in}
+use Rattle.tcp_norm.specs.HeldOctets.{held_in}
+use Rattle.tcp_norm.specs.QuotaBounds.{IsAtMost}
+use Rattle.tcp_norm.specs.TableAndStore.{alive_in}
 use Rattle.tcp_norm.proofs.Quotas.{each_at_most, never_for_room}
 use Rattle.tcp_norm.proofs.SpareEras.{held_is}
 use Rattle.tcp_norm.proofs.state.TcpNorm.held.Goals as goal

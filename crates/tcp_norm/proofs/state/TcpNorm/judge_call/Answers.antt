@@ -3,22 +3,22 @@ use Rattle.rule_book.specs.declared.rule.Rule.TheVariants as rules
 use Rattle.wire_base.specs.Tcp as tcp
 use Rattle.wire_base.specs.Segments.{Written}
 use Rattle.tcp_codec.specs.declared.header.Tcp.{Tcp}
-use Rattle.era_state.specs.Read.{came}
+use Rattle.era_state.specs.SegmentFields.{came}
 use Rattle.tcp_norm.specs.Calls.{segment_in}
-use Rattle.tcp_norm.specs.Views.{view_of}
-use Rattle.tcp_norm.specs.Emits.{flags_cleared, packet_by}
-use Rattle.tcp_norm.specs.Inwards.{bare_read, passed}
+use Rattle.tcp_norm.specs.RuleViews.{view_of}
+use Rattle.tcp_norm.specs.EmittedPackets.{flags_cleared, packet_by}
+use Rattle.tcp_norm.specs.working.InwardSegments.{bare_read, passed}
 use Rattle.tcp_norm.specs.Outcomes.{outcome_at}
-use Rattle.tcp_norm.specs.Steps.{IsStep, Does, began}
+use Rattle.tcp_norm.specs.working.EraSteps.{IsStep, Does, began}
 use Rattle.tcp_norm.specs.declared.step.Step.{Step}
 use Rattle.tcp_norm.proofs.Connections.{call_sent, calling, view_cold, cold_full, cold_passes, full_is, full_not, step_called, none_came}
 use Rattle.tcp_norm.proofs.BareSegments.{comes_bare, bare_anew, beside_are}
-use Rattle.tcp_norm.proofs.InboundSegments.{in_dropped, in_unheard, in_outcome, in_does, keyed, packets_begun, side_is, says}
+use Rattle.tcp_norm.proofs.InboundSegments.{refused, in_dropped, in_unheard, in_outcome, in_does, keyed, packets_begun, side_is, says}
 use Rattle.tcp_norm.proofs.SynsAndResets.{bare_writes, called_marked, begun_probes, cold_stream, bare_carried, rewritten_in}
 use Rattle.tcp_norm.proofs.state.TcpNorm.judge_call.Goals as goal
 
-pub returns-in-None-clause-judges : goal.returns-in-None-clause-judges
-returns-in-None-clause-judges c = says c.args.arrival.now c.args.self.now _ _ _ _ refl (λ settings calls d st is.
+pub returns-in-None : goal.returns-in-None
+returns-in-None c = says c.args.arrival.now c.args.self.now _ _ _ _ _ _ _ (refused c.args.arrival.now _ _ _ _ rules.TFull None c.requires.empty (c.report_dropped.ensures [] refl)) (λ settings calls d st is.
     let a = c.args.arrival.now in
     let v = view_of settings calls d in
     let side = side_is a.packet.now a.link.now d c.requires.keyed.side is in
@@ -37,8 +37,8 @@ offer-requires-clause-syn c = (call_sent c.args.arrival.now.head.now.flags.0 c.b
 pub offer-requires-clause-no_ack : goal.offer-requires-clause-no_ack
 offer-requires-clause-no_ack c = (call_sent c.args.arrival.now.head.now.flags.0 c.bare_seg-seg.result.flags.0 (ap (λ (w : Written). w.flags) c.bare_seg-seg.ensures.read ∙ ap flags_cleared (sym (ap (λ (h : Tcp). h.flags.0) c.args.arrival.now.read.fields))) c.requires.call).1
 
-pub returns-in-Some-clause-judges : goal.returns-in-Some-clause-judges
-returns-in-Some-clause-judges c = says c.args.arrival.now c.args.self.now _ _ _ _ refl (λ settings calls d st is.
+pub returns-in-Some : goal.returns-in-Some
+returns-in-Some c = says c.args.arrival.now c.args.self.now _ _ _ _ _ _ _ c.pass.ensures (λ settings calls d st is.
     let a = c.args.arrival.now in
     let v = view_of settings calls d in
     let w = segment_in d in

@@ -4,14 +4,14 @@ use Rattle.std.proofs.lemmas.Bool.{false≢true}
 use Rattle.wire_base.specs.Segments.{Written}
 use Rattle.tcp_codec.specs.declared.header.Tcp.{Tcp}
 use Rattle.tcp_norm.specs.Calls.{segment_in}
-use Rattle.tcp_norm.specs.Views.{view_of}
-use Rattle.tcp_norm.specs.Colds.{IsUnheard}
-use Rattle.tcp_norm.specs.Emits.{flags_cleared, probe_packet}
-use Rattle.tcp_norm.specs.Inwards.{bare_read}
+use Rattle.tcp_norm.specs.RuleViews.{view_of}
+use Rattle.tcp_norm.specs.working.ColdDatagrams.{IsUnheard}
+use Rattle.tcp_norm.specs.EmittedPackets.{flags_cleared, probe_packet}
+use Rattle.tcp_norm.specs.working.InwardSegments.{bare_read}
 use Rattle.tcp_norm.specs.Outcomes.{outcome_at}
 use Rattle.tcp_norm.proofs.Connections.{sent_call, view_cold, cold_same, asked_same, call_same, cold_probe_same, cold_refused, cold_passes, no_call_no_begin}
 use Rattle.tcp_norm.proofs.BareSegments.{comes_bare, beside_are}
-use Rattle.tcp_norm.proofs.InboundSegments.{in_dropped, in_unheard, in_outcome, keyed, asks, step_asked, packets_asked, side_is, says}
+use Rattle.tcp_norm.proofs.InboundSegments.{in_dropped, in_unheard, in_outcome, keyed, asks, refused, step_asked, packets_asked, side_is, says}
 use Rattle.tcp_norm.proofs.SynsAndResets.{cold_probes, cold_stream}
 use Rattle.tcp_norm.proofs.state.TcpNorm.judge_cold.Goals as goal
 
@@ -25,8 +25,8 @@ unreachable-requires c =
     ap (λ (w : Written). w.flags) c.bare_seg-seg.ensures.read ∙ ap flags_cleared (sym (ap (λ (h : Tcp). h.flags.0) a.read.fields)) in
     absurd (false≢true (c.if-are_of_call.ensures ∙ sent_call a.head.now.flags.0 c.bare_seg-seg.result.flags.0 flags a.read.legal (sym c.in-Begin.ensures.begins)))
 
-pub returns-in-Refuse-clause-judges : goal.returns-in-Refuse-clause-judges
-returns-in-Refuse-clause-judges c = says c.args.arrival.now c.args.self.now _ _ _ _ refl (λ settings calls d st is.
+pub returns-in-Refuse : goal.returns-in-Refuse
+returns-in-Refuse c = says c.args.arrival.now c.args.self.now _ _ _ _ _ _ _ (refused c.args.arrival.now _ _ _ _ rules.TCold None c.requires.empty (c.report_dropped.ensures [] refl)) (λ settings calls d st is.
     let a = c.args.arrival.now in
     let v = view_of settings calls d in
     let key_is = keyed a.packet.now a.link.now d _ c.requires.keyed.side is c.requires.keyed.key_is in
@@ -38,8 +38,8 @@ returns-in-Refuse-clause-judges c = says c.args.arrival.now c.args.self.now _ _ 
       rules = record { outcome_is = in_dropped settings v d rules.TCold None [] drops none refl; carried = c.requires.keyed.side };
     })
 
-pub returns-in-Probe-clause-judges : goal.returns-in-Probe-clause-judges
-returns-in-Probe-clause-judges c = says c.args.arrival.now c.args.self.now _ _ _ _ refl (λ settings calls d st is.
+pub returns-in-Probe : goal.returns-in-Probe
+returns-in-Probe c = says c.args.arrival.now c.args.self.now _ _ _ _ _ _ _ c.carry_out.ensures (λ settings calls d st is.
     let a = c.args.arrival.now in
     let v = view_of settings calls d in
     let w = segment_in d in

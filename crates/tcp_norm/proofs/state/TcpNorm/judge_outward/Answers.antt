@@ -2,16 +2,16 @@ use Rattle.std.proofs.Common.{ℕ, ◌≤◌, ◌∙◌, List, [], ◌∷◌, le
 use Rattle.wire_base.specs.Tcp as tcp
 use Rattle.tcp_codec.specs.declared.header.Tcp.{Tcp}
 use Rattle.ip_rules.specs.Datagrams.{goes_in}
-use Rattle.tcp_norm.specs.Views.{view_of}
-use Rattle.tcp_norm.specs.Emits.{packet_by}
-use Rattle.tcp_norm.specs.Inwards.{passed}
+use Rattle.tcp_norm.specs.RuleViews.{view_of}
+use Rattle.tcp_norm.specs.EmittedPackets.{packet_by}
+use Rattle.tcp_norm.specs.working.InwardSegments.{passed}
 use Rattle.tcp_norm.specs.Outcomes.{outcome_at}
 use Rattle.tcp_norm.proofs.InboundSegments.{says}
 use Rattle.tcp_norm.proofs.OutboundSegments.{out_outcome, out_does, sum_wrong}
 use Rattle.tcp_norm.proofs.state.TcpNorm.judge_outward.Goals as goal
 
-pub returns-clause-judges : goal.returns-clause-judges
-returns-clause-judges c = says c.args.arrival.now c.args.self.now _ _ _ _ c.pass_by_step.ensures.said (λ settings calls d st is.
+pub returns : goal.returns
+returns c = says c.args.arrival.now c.args.self.now _ _ _ _ _ _ _ c.pass.ensures (λ settings calls d st is.
     let a = c.args.arrival.now in
     let v = view_of settings calls d in
     let step = c.depart-step.result in

@@ -1,30 +1,30 @@
 use Rattle.std.proofs.Common.{◌≡◌, ◌∙◌, true, cond, [], ◌∷◌, map, Some, None, sym, ap, subst, refl}
 use Rattle.wire_base.specs.Tcp as tcp
 use Rattle.rule_book.specs.declared.rule.Rule.TheVariants as rules
-use Rattle.era_state.specs.Read.{came}
+use Rattle.era_state.specs.SegmentFields.{came}
 use Rattle.era_state.specs.Rules.{t_rst}
-use Rattle.era_state.specs.Silence.{IsSilent}
+use Rattle.era_state.specs.SilentSegments.{IsSilent}
 use Rattle.reset_probe.specs.Rules.{era_probe}
 use Rattle.ip_rules.specs.Datagrams.{goes_in}
 use Rattle.tcp_norm.specs.Calls.{read, segments, segment_in}
-use Rattle.tcp_norm.specs.Views.{view_of}
-use Rattle.tcp_norm.specs.Emits.{packet_by, probe_packets}
-use Rattle.tcp_norm.specs.Resets.{WritesAll}
-use Rattle.tcp_norm.specs.Steps.{IsStep}
-use Rattle.tcp_norm.specs.Writes.{BringsNone}
+use Rattle.tcp_norm.specs.RuleViews.{view_of}
+use Rattle.tcp_norm.specs.EmittedPackets.{packet_by, probe_packets}
+use Rattle.tcp_norm.specs.working.LiveWrites.{WritesAll}
+use Rattle.tcp_norm.specs.working.EraSteps.{IsStep}
+use Rattle.tcp_norm.specs.working.EmptySegments.{BringsNone}
 use Rattle.tcp_norm.specs.declared.step.Step.{Step}
-use Rattle.tcp_norm.specs.Live.{Live}
-use Rattle.tcp_norm.specs.Rulings.{IsFound}
+use Rattle.tcp_norm.specs.working.LiveSlots.{Live}
+use Rattle.tcp_norm.specs.working.Rulings.{IsFound}
 use Rattle.linked_table.proofs.Lists.{all_weaker}
 use Rattle.tcp_norm.proofs.KeptOctets.{silent_brings_none, silent_stands}
 use Rattle.tcp_norm.proofs.Connections.{step_seen, rst_same, probe_same, reset_dropped, no_call, refused_alone, passed_alone}
 use Rattle.tcp_norm.proofs.BareSegments.{bare_anew, beside_are}
-use Rattle.tcp_norm.proofs.InboundSegments.{in_dropped, in_unheard, in_outcome, packets_reset, judged, of_live, writes_all, says}
+use Rattle.tcp_norm.proofs.InboundSegments.{refused, in_dropped, in_unheard, in_outcome, packets_reset, judged, of_live, writes_all, says}
 use Rattle.tcp_norm.proofs.SynsAndResets.{bare_writes, reset_stream, reset_probes, rst_marked, no_recall, reset_silent, probes_silent, first_is, bare_carried, rewritten_in}
 use Rattle.tcp_norm.proofs.state.TcpNorm.judge_reset.Goals as goal
 
-pub returns-in-Refuse-clause-judges : goal.returns-in-Refuse-clause-judges
-returns-in-Refuse-clause-judges c = says c.args.arrival.now c.args.self.now _ _ _ _ refl (λ settings calls d st is.
+pub returns-in-Refuse : goal.returns-in-Refuse
+returns-in-Refuse c = says c.args.arrival.now c.args.self.now _ _ _ _ _ _ _ (refused c.args.arrival.now _ _ _ _ rules.TRst _ c.requires.empty (c.report_dropped.ensures [] refl)) (λ settings calls d st is.
     let a = c.args.arrival.now in
     let key = c.requires.live.key in
     let here : Live = record { key = key; slot = c.args.slot; flow = c.flow_at-flow.result.now } in
@@ -48,8 +48,8 @@ returns-in-Refuse-clause-judges c = says c.args.arrival.now c.args.self.now _ _ 
     })
     (c.arrive.ensures settings calls d _ st (in_unheard settings v d rules.TRst drops)))
 
-pub returns-in-Pass-clause-judges : goal.returns-in-Pass-clause-judges
-returns-in-Pass-clause-judges c = says c.args.arrival.now c.args.self.now _ _ _ _ c.pass.ensures.said (λ settings calls d st is.
+pub returns-in-Pass : goal.returns-in-Pass
+returns-in-Pass c = says c.args.arrival.now c.args.self.now _ _ _ _ _ _ _ c.pass.ensures (λ settings calls d st is.
     let a = c.args.arrival.now in
     let key = c.requires.live.key in
     let here : Live = record { key = key; slot = c.args.slot; flow = c.flow_at-flow.result.now } in

@@ -1,14 +1,14 @@
-use Rattle.std.proofs.Common.{◌≡◌, ◌+◌, ◌∙◌, true, cond, Some, refl, sym, ap, subst, arith}
+use Rattle.std.proofs.Common.{◌≡◌, ◌+◌, ◌∙◌, true, cond, Some, sym, ap, subst, arith}
 use Rattle.wire_base.specs.Tcp as tcp
-use Rattle.linked_table.specs.Table.{Wherever}
+use Rattle.linked_table.specs.EntryTable.{Wherever}
 use Rattle.era_state.specs.Quantities.{octets_of}
-use Rattle.era_state.specs.Read.{came}
+use Rattle.era_state.specs.SegmentFields.{came}
 use Rattle.tcp_norm.specs.Calls.{segments, segment_in}
-use Rattle.tcp_norm.specs.Live.{Live}
-use Rattle.tcp_norm.specs.Rulings.{IsFound}
-use Rattle.tcp_norm.specs.Views.{view_of}
+use Rattle.tcp_norm.specs.working.LiveSlots.{Live}
+use Rattle.tcp_norm.specs.working.Rulings.{IsFound}
+use Rattle.tcp_norm.specs.RuleViews.{view_of}
 use Rattle.tcp_norm.specs.Outcomes.{outcome_at}
-use Rattle.tcp_norm.specs.Steps.{Does, continued_in, reopened_by}
+use Rattle.tcp_norm.specs.working.EraSteps.{Does, continued_in, reopened_by}
 use Rattle.tcp_norm.proofs.Connections.{no_reset}
 use Rattle.tcp_norm.proofs.InboundSegments.{in_unheard, judged, of_live, says}
 use Rattle.tcp_norm.proofs.SynsAndResets.{rewritten_in, syn_refused, of_syn}
@@ -17,8 +17,8 @@ use Rattle.tcp_norm.proofs.state.TcpNorm.judge_syn.Goals as goal
 pub overflow_add-self : goal.overflow_add-self
 overflow_add-self c = omega (arith, c.args.self.now.few, c.requires.ready.few)
 
-pub returns-in-Some-clause-judges : goal.returns-in-Some-clause-judges
-returns-in-Some-clause-judges c = says c.args.arrival.now c.args.self.now _ _ _ _ refl (λ settings calls d st is.
+pub returns-in-Some : goal.returns-in-Some
+returns-in-Some c = says c.args.arrival.now c.args.self.now _ _ _ _ _ _ _ c.carry_out.ensures (λ settings calls d st is.
     let key = c.requires.live.key in
     let here : Live = record { key = key; slot = c.args.slot; flow = c.flow_at-flow.result.now } in
     let flow = c.flow_at-flow.ensures in
@@ -39,8 +39,8 @@ offer-requires-then-again-clause-keyed c =
     let live = c.requires.live in
     subst (λ k. Wherever c.args.self.now.table.entries c.args.slot (λ e. e.key.0 ≡ k)) (live.keyed.key_is ∙ sym c.inward_key-key.ensures) live.of_key
 
-pub returns-then-again-clause-judges : goal.returns-then-again-clause-judges
-returns-then-again-clause-judges c = says c.args.arrival.now c.args.self.now _ _ _ _ refl (λ settings calls d st is.
+pub returns-then-again : goal.returns-then-again
+returns-then-again c = says c.args.arrival.now c.args.self.now _ _ _ _ _ _ _ c.pass.ensures (λ settings calls d st is.
     let key = c.requires.live.key in
     let here : Live = record { key = key; slot = c.args.slot; flow = c.flow_at-flow.result.now } in
     let flow = c.flow_at-flow.ensures in
@@ -61,8 +61,8 @@ returns-then-again-clause-judges c = says c.args.arrival.now c.args.self.now _ _
           (c.reopening-step.ensures (segments n calls) o.stood) o.does;
     })))
 
-pub returns-clause-judges : goal.returns-clause-judges
-returns-clause-judges c = says c.args.arrival.now c.args.self.now _ _ _ _ c.pass.ensures.said (λ settings calls d st is.
+pub returns : goal.returns
+returns c = says c.args.arrival.now c.args.self.now _ _ _ _ _ _ _ c.pass-2.ensures (λ settings calls d st is.
     let key = c.requires.live.key in
     let here : Live = record { key = key; slot = c.args.slot; flow = c.flow_at-flow.result.now } in
     let flow = c.flow_at-flow.ensures in

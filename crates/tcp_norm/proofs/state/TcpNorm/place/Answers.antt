@@ -2,9 +2,10 @@ use Rattle.std.proofs.Common.{◌≡◌, ◌+◌, ◌≤◌, ◌<◌, ◌∙◌,
 use Rattle.std.proofs.lemmas.Bool.Decides.{nat_tests}
 use Rattle.std.proofs.lemmas.List.{length-map}
 use Rattle.tcp_norm.specs.Calls.{Alive, without}
-use Rattle.tcp_norm.specs.Standing.{Holds, Begins, ChangesTables, alive_in}
-use Rattle.tcp_norm.specs.Steps.{IsRoom, first_empty, place_of}
-use Rattle.tcp_norm.proofs.CallEffects.{without_none}
+use Rattle.tcp_norm.specs.working.TableChanges.{Holds, Begins, ChangesTables}
+use Rattle.tcp_norm.specs.TableAndStore.{alive_in}
+use Rattle.tcp_norm.specs.working.EraSteps.{IsRoom, first_empty, place_of}
+use Rattle.tcp_norm.proofs.CallEffects.{given_some, without_none}
 use Rattle.tcp_norm.proofs.EraTable.{then_changes}
 use Rattle.tcp_norm.proofs.state.TcpNorm.place.Goals as goal
 
@@ -20,9 +21,8 @@ returns-in-Free-clause-places c lives segments h =
     record {
       answer = sym (ap (λ b. place_of b (first_empty lives segments) (self.begun + 1)) full ∙ ap (λ n. Some (record { begun = n; evicted = None })) (sym c.begin.ensures.tables.begun_is));
       given = λ number is. cc;
-      some = λ later begins. subst (λ (l : List Alive). Holds c.begin.new.self (l ++ record { number = self.begun + 1; key = c.args.hashed.now.key.0; touched = c.args.now } ∷ []) later) (sym (without_none lives))
+      holds = λ later begins. subst (λ (l : List Alive). Holds c.begin.new.self (l ++ record { number = self.begun + 1; key = c.args.hashed.now.key.0; touched = c.args.now } ∷ []) later) (sym (without_none lives))
           (c.begin.ensures.holds lives segments later h begins);
-      none = tt;
     }
 
 pub evict-ended-requires : goal.evict-ended-requires
@@ -40,10 +40,9 @@ returns-in-Spare-clause-places c lives segments h =
     record {
       answer = sym (ap (λ b. place_of b (first_empty lives segments) (self.begun + 1)) full ∙ (ap (λ r. place_of true r (self.begun + 1)) (sym e.answer)
           ∙ ap (λ n. Some (record { begun = n; evicted = Some c.evict-ended.result })) (sym (c.begin-in-Spare.ensures.tables.begun_is ∙ next))));
-      given = λ number is. e.given number is;
-      some = λ later begins. subst (λ n. Holds c.begin-in-Spare.new.self (left ++ record { number = n; key = c.args.hashed.now.key.0; touched = c.args.now } ∷ []) later) next
+      given = λ number is. given_some c.evict-ended.result.era number e.given is;
+      holds = λ later begins. subst (λ n. Holds c.begin-in-Spare.new.self (left ++ record { number = n; key = c.args.hashed.now.key.0; touched = c.args.now } ∷ []) later) next
           (c.begin-in-Spare.ensures.holds left segments later e.left (subst (λ n. Begins c.args.era.now n segments later) (sym next) begins));
-      none = tt;
     }
 
 pub returns-in-Spare-clause-tables : goal.returns-in-Spare-clause-tables

@@ -1,10 +1,10 @@
 use Rattle.std.proofs.Common.{◌+◌, ◌∙◌, ℕ, List, Some, length, [], ◌∷◌, ◌++◌, refl, sym, ap, subst, arith}
 use Rattle.wire_base.specs.Segments.{Written}
 use Rattle.tcp_norm.specs.Calls.{datagram, segments, eras, without}
-use Rattle.tcp_norm.specs.Near.{IsNear}
-use Rattle.tcp_norm.specs.Steps.{reopened_by}
+use Rattle.tcp_norm.specs.working.EraBounds.{IsNear}
+use Rattle.tcp_norm.specs.working.EraSteps.{reopened_by}
 use Rattle.tcp_norm.specs.declared.key.EraKey.{EraKey}
-use Rattle.tcp_norm.specs.Standing.{Holds, Begins, IsAbsent}
+use Rattle.tcp_norm.specs.working.TableChanges.{Holds, Begins, IsAbsent}
 use Rattle.tcp_norm.proofs.CallEffects.{begins_then, begins_with, given_some, tables_go_on}
 use Rattle.tcp_norm.proofs.EraTable.{at_slot, opened_kept, then_changes}
 use Rattle.tcp_norm.proofs.Lists.{key_left, shorter}

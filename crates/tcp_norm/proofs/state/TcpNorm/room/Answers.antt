@@ -2,9 +2,9 @@ use Rattle.std.proofs.Common.{◌≡◌, ◌∙◌, true, length, None, sym, ap,
 use Rattle.std.proofs.lemmas.Bool.Decides.{nat_tests}
 use Rattle.std.proofs.lemmas.List.{length-map}
 use Rattle.tcp_norm.specs.Calls.{segments, eras}
-use Rattle.tcp_norm.specs.Views.{view_of}
-use Rattle.tcp_norm.specs.Standing.{alive_in}
-use Rattle.tcp_norm.specs.Steps.{place_of}
+use Rattle.tcp_norm.specs.RuleViews.{view_of}
+use Rattle.tcp_norm.specs.TableAndStore.{alive_in}
+use Rattle.tcp_norm.specs.working.EraSteps.{place_of}
 use Rattle.tcp_norm.proofs.SpareEras.{found, first_none}
 use Rattle.tcp_norm.proofs.state.TcpNorm.room.Goals as goal
 

@@ -1,13 +1,13 @@
 use Rattle.std.proofs.Common.{◌+◌, ◌∙◌, [], ◌∷◌, ◌++◌, sym, ap, subst, refl, cond, None, arith, nat_lt}
-use Rattle.linked_table.specs.Table as table
+use Rattle.linked_table.specs.EntryTable as table
 use Rattle.retain_store.specs.Maps.{Store, chain_of, octet_at}
 use Rattle.era_state.specs.Eras as era
-use Rattle.tcp_norm.specs.declared.flow.Flow.{Flow}
-use Rattle.tcp_norm.specs.Live.{Live}
+use Rattle.tcp_norm.specs.declared.key.Flow.{Flow}
+use Rattle.tcp_norm.specs.working.LiveSlots.{Live}
 use Rattle.tcp_norm.specs.declared.key.EraKey.{EraKey}
 use Rattle.tcp_norm.specs.Calls.{segments, segment_in, eras}
-use Rattle.tcp_norm.specs.Near.{AreNear}
-use Rattle.tcp_norm.specs.Rulings.{Continues}
+use Rattle.tcp_norm.specs.working.EraBounds.{AreNear}
+use Rattle.tcp_norm.specs.working.Rulings.{Continues}
 use Rattle.tcp_norm.proofs.KeptOctets.{keeps_behind, outbound_brings_none}
 use Rattle.tcp_norm.proofs.EraWrites.{acked_small, near_at, nears_weaker, near_touched, stands_written, writes_one}
 use Rattle.tcp_norm.proofs.Quotas.{shorter_below, stays_bounded}

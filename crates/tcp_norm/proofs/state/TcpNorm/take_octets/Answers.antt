@@ -1,18 +1,18 @@
 use Rattle.std.proofs.Common.{◌∙◌, ◌+◌, ◌*◌, ◌^◌, ◌≤◌, [], ◌++◌, ◌∷◌, length, sym, ap, subst, refl, arith}
 use Rattle.era_state.specs.Eras.{acked_in, octets_in}
-use Rattle.linked_table.specs.Table as table
+use Rattle.linked_table.specs.EntryTable as table
 use Rattle.retain_store.specs.Maps.{Store, chain_of, fresh, missing}
-use Rattle.tcp_norm.specs.declared.flow.Flow.{Flow}
+use Rattle.tcp_norm.specs.declared.key.Flow.{Flow}
 use Rattle.tcp_norm.specs.declared.key.EraKey.{EraKey}
 use Rattle.tcp_norm.specs.Calls.{segments, segment_in, eras}
-use Rattle.tcp_norm.specs.Near.{AreNear}
+use Rattle.tcp_norm.specs.working.EraBounds.{AreNear}
 use Rattle.tcp_norm.proofs.EraWrites.{near_at, nears_weaker, near_touched, stands_written, wrote_these, taken_long}
 use Rattle.tcp_norm.proofs.Quotas.{stays_bounded}
 use Rattle.tcp_norm.proofs.EraTable.{at_slot, opened_kept, same_value}
 use Rattle.tcp_norm.proofs.SpareEras.{touched_listed}
 use Rattle.tcp_norm.proofs.KeptOctets.{fresh_is, keeps_with, last_stands}
-use Rattle.tcp_norm.specs.Live.{Live}
-use Rattle.tcp_norm.specs.Rulings.{Brings, IsHeld, taken}
+use Rattle.tcp_norm.specs.working.LiveSlots.{Live}
+use Rattle.tcp_norm.specs.working.Rulings.{Brings, IsHeld, taken}
 use Rattle.tcp_norm.proofs.state.TcpNorm.take_octets.Goals as goal
 
 pub returns : goal.returns

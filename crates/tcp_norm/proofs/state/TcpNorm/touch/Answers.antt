@@ -1,9 +1,9 @@
 use Rattle.std.proofs.Common.{refl, sym, ap, subst}
-use Rattle.linked_table.specs.Table as table
-use Rattle.tcp_norm.specs.declared.flow.Flow.{Flow}
-use Rattle.tcp_norm.specs.Live.{Live}
+use Rattle.linked_table.specs.EntryTable as table
+use Rattle.tcp_norm.specs.declared.key.Flow.{Flow}
+use Rattle.tcp_norm.specs.working.LiveSlots.{Live}
 use Rattle.tcp_norm.specs.declared.key.EraKey.{EraKey}
-use Rattle.tcp_norm.specs.Rulings.{Extends}
+use Rattle.tcp_norm.specs.working.Rulings.{Extends}
 use Rattle.tcp_norm.proofs.EraTable.{none_changed, opened_kept}
 use Rattle.tcp_norm.proofs.SpareEras.{touched_listed}
 use Rattle.tcp_norm.proofs.EraWrites.{near_marked, stands_touched, touched_is}

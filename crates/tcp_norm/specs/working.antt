@@ -1,0 +1,15 @@
+pub mod KeyHashes
+pub mod TableChanges
+pub mod EmptySegments
+pub mod RewriteTests
+pub mod ReadHeads
+pub mod EraBounds
+pub mod LiveSlots
+pub mod SpareSlots
+pub mod EraSteps
+pub mod PassingRoom
+pub mod ColdDatagrams
+pub mod RewrittenSegments
+pub mod InwardSegments
+pub mod LiveWrites
+pub mod Rulings
