@@ -9,8 +9,8 @@ use Rattle.wire_base.specs.Frames.{kind_of, link_octets, packet_in}
 use Rattle.wire_base.specs.declared.address.Link.{Link}
 use Rattle.wire_base.specs.declared.address.Link.TheVariants.{Ethernet, Raw}
 use Rattle.frame_view.specs.Changes.{PlainChange, changes_in, changes_of}
-use Rattle.frame_view.specs.Laws.{AreOctets, SayTheSame, SayTheSameIfEqual, NothingDiffersIfEqual}
-use Rattle.frame_view.specs.Parts.{IsReadable, has_ip_header, is_ip, packet_of, payload_in, payload_of, payload_or}
+use Rattle.frame_view.specs.ReadingLaws.{AreOctets, SayTheSame, SayTheSameIfEqual, NothingDiffersIfEqual}
+use Rattle.frame_view.specs.FrameParts.{IsReadable, has_ip_header, is_ip, packet_of, payload_in, payload_of, payload_or}
 use Rattle.frame_view.specs.Readings.{fields, octets, packet_reading, reading}
 use Rattle.frame_view.specs.declared.field.Field.{Field}
 use Rattle.frame_view.specs.declared.field.Field.TheVariants.{LinkHeader, Version, HeaderLength, TypeOfService, TotalLength, Identification, ReservedBit, DontFragment, MoreFragments, FragmentOffset, Ttl, Protocol, HeaderChecksum, Source, Destination, IpOptions, SourcePort, DestinationPort, Sequence, Acknowledgment, DataOffset, Reserved, Flags, Window, Checksum, UrgentPointer, TcpOptions, UdpLength, Payload, Trailer}

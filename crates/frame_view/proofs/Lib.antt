@@ -1,4 +1,3 @@
-pub mod Fronts
-pub mod Runs
 pub mod Packets
+pub mod Runs
 pub mod Frames

@@ -1,17 +1,69 @@
--- Two packets that say the same in each field are the same.
-use Rattle.std.proofs.Common.{◌≡◌, ℕ, ◌+◌, ◌%◌, ◌<◌, ◌≤◌, ◌&&◌, ◌||◌, ◌==◌, ◌⊎◌, not, Bool, true, false, Option, Some, None, List, [], ◌∷◌, ◌++◌, length, take, drop, refl, sym, ap, ◌∙◌, inl, inr, lit<, arith, slice_index, append_assoc}
+-- Two packets that say the same in each field are the same, by the fronts of lists and the octets
+-- of numbers.
+use Rattle.std.proofs.Common.{◌≡◌, ℕ, zero, suc, ◌+◌, ◌*◌, ◌/◌, ◌%◌, ◌<◌, ◌≤◌, List, [], ◌∷◌, length, take, drop, refl, ap, ◌∙◌, arith, slice_index, ◌&&◌, ◌||◌, ◌==◌, ◌⊎◌, not, Bool, true, false, Option, Some, None, ◌++◌, sym, inl, inr, lit<, append_assoc}
+use Rattle.std.proofs.lemmas.List.{drop_more, take-append-drop, take-take, get_or-drop, get_or-take, get_or_past, length-take}
 use Rattle.std.proofs.lemmas.Bool.{true≢false, and_parts, not-true, ltb-false, cases_Bool, cases_lt}
-use Rattle.std.proofs.lemmas.List.{take-append-drop, take-take, get_or-drop, get_or-take, get_or_past, length-take}
 use Rattle.wire_base.specs.Numbers.{u16_at, u32_at}
 use Rattle.wire_base.specs.Ipv4 as ip
 use Rattle.wire_base.specs.Tcp as tcp
 use Rattle.wire_base.specs.Udp as udp
-use Rattle.frame_view.specs.Laws.{AreOctets}
-use Rattle.frame_view.specs.Parts.{HasSegmentHeader, IsReadable, behind, datagram_in, has_tcp_header, is_first, message_end, message_in, segment_in}
+use Rattle.frame_view.specs.ReadingLaws.{AreOctets}
+use Rattle.frame_view.specs.working.SegmentHeaders.{HasSegmentHeader}
+use Rattle.frame_view.specs.FrameParts.{IsReadable, behind, datagram_in, has_tcp_header, is_first, message_end, message_in, segment_in}
 use Rattle.frame_view.specs.Readings.{message_reading, packet_reading}
 use Rattle.frame_view.specs.declared.field.Field.{Field}
 use Rattle.frame_view.specs.declared.field.Field.TheVariants.{Version, HeaderLength, TypeOfService, TotalLength, Identification, ReservedBit, DontFragment, MoreFragments, FragmentOffset, Ttl, Protocol, HeaderChecksum, Source, Destination, IpOptions, SourcePort, DestinationPort, Sequence, Acknowledgment, DataOffset, Reserved, Flags, Window, Checksum, UrgentPointer, TcpOptions, UdpLength, Payload, Trailer}
-use Rattle.frame_view.proofs.Fronts.{from, from-is, same_number, low16, high16, low32, high32, below16, from_halves, times_four, times_eight, low13, from_bits}
+
+-- The front of a list by its elements, and numbers by their octets.
+
+-- this number of elements from an offset on
+abbrev pub from : (at count : ℕ) → List ℕ → List ℕ
+from at zero p = []
+from at (suc count) p = slice_index p at ∷ from (at + 1) count p
+
+pub from-is : (count at : ℕ) (p : List ℕ) → at + count ≤ length p → take count (drop at p) ≡ from at count p
+from-is zero at p h = refl
+from-is (suc count) at p h =
+    ap (take (suc count)) (drop_more p at 0 (omega arith)) ∙ ap (λ t. slice_index p at ∷ t) (from-is count (at + 1) p (omega arith))
+
+-- one number in a list
+pub same_number : (m n : ℕ) → m ∷ [] ≡ n ∷ [] → m ≡ n
+same_number m n e = ap (λ list. slice_index list 0) e
+
+pub low16 : (a b c d : ℕ) → b < 256 → d < 256 → 256 * a + b ≡ 256 * c + d → b ≡ d
+low16 a b c d hb hd e = omega arith
+
+pub high16 : (a b c d : ℕ) → b < 256 → d < 256 → 256 * a + b ≡ 256 * c + d → a ≡ c
+high16 a b c d hb hd e = omega arith
+
+pub low32 : (a b c d : ℕ) → b < 65536 → d < 65536 → 65536 * a + b ≡ 65536 * c + d → b ≡ d
+low32 a b c d hb hd e = omega arith
+
+pub high32 : (a b c d : ℕ) → b < 65536 → d < 65536 → 65536 * a + b ≡ 65536 * c + d → a ≡ c
+high32 a b c d hb hd e = omega arith
+
+pub below16 : (a b : ℕ) → a < 256 → b < 256 → 256 * a + b < 65536
+below16 a b ha hb = omega arith
+
+-- two halves of an octet
+pub from_halves : (x y : ℕ) → x / 16 ≡ y / 16 → x % 16 ≡ y % 16 → x ≡ y
+from_halves x y high low = omega arith
+
+pub times_four : (x y : ℕ) → 4 * x ≡ 4 * y → x ≡ y
+times_four x y e = omega arith
+
+pub times_eight : (x y : ℕ) → 8 * x ≡ 8 * y → x ≡ y
+times_eight x y e = omega arith
+
+-- the low 13 bits of a 16-bit number, as those of its octets
+pub low13 : (a b : ℕ) → b < 256 → (256 * a + b) % 8192 ≡ 256 * (a % 32) + b
+low13 a b hb = omega arith
+
+-- an octet by its three high bits and the rest
+pub from_bits : (x y : ℕ) → x < 256 → y < 256 → x / 128 % 2 ≡ y / 128 % 2 → x / 64 % 2 ≡ y / 64 % 2 → x / 32 % 2 ≡ y / 32 % 2 → x % 32 ≡ y % 32 → x ≡ y
+from_bits x y hx hy first second third rest = omega arith
+
+-- Two packets.
 
 -- two octets of two lists are the same where the 16-bit number that they make is
 pub second_octet : (a b : List ℕ) (at : ℕ) → AreOctets a → AreOctets b → u16_at a at ≡ u16_at b at → slice_index a (at + 1) ≡ slice_index b (at + 1)

@@ -6,7 +6,7 @@ use Rattle.std.specs.List.{flat_map}
 use Rattle.std.specs.Str.{bytes_eq}
 use Rattle.wire_base.specs.declared.address.Link.{Link}
 use Rattle.frame_view.specs.Flows.{flow_in, length_in}
-use Rattle.frame_view.specs.Parts.{payload_of}
+use Rattle.frame_view.specs.FrameParts.{payload_of}
 use Rattle.frame_view.specs.Readings.{fields, has_octets, reading}
 use Rattle.frame_view.specs.declared.change.Change.{Change}
 use Rattle.frame_view.specs.declared.change.Change.TheVariants.{InField, InPayload, Made as MadeFrame}

@@ -8,7 +8,7 @@ use Rattle.wire_base.specs.Ipv4 as ip
 use Rattle.wire_base.specs.Tcp as tcp
 use Rattle.wire_base.specs.declared.address.Link.{Link}
 use Rattle.wire_base.specs.declared.address.Link.TheVariants.{Ethernet, Raw}
-use Rattle.frame_view.specs.Parts.{packet_of, segment_in, icmp_in, ported_in, payload_in, payload_of}
+use Rattle.frame_view.specs.FrameParts.{packet_of, segment_in, icmp_in, ported_in, payload_in, payload_of}
 use Rattle.frame_view.specs.declared.flow.Flow.{Flow}
 use Rattle.frame_view.specs.declared.flow.IcmpMarks.{IcmpMarks}
 use Rattle.frame_view.specs.declared.flow.Ports.{Ports}

@@ -1,6 +1,6 @@
-pub mod Parts
+pub mod FrameParts
 pub mod Readings
 pub mod Flows
 pub mod Changes
-pub mod Shapes
-pub mod Laws
+pub mod ReadingLaws
+pub mod working

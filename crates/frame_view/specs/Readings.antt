@@ -7,7 +7,7 @@ use Rattle.wire_base.specs.Ipv4 as ip
 use Rattle.wire_base.specs.Tcp as tcp
 use Rattle.wire_base.specs.Udp as udp
 use Rattle.wire_base.specs.declared.address.Link.{Link}
-use Rattle.frame_view.specs.Parts.{packet_of, segment_in, datagram_in, payload_in, payload_of, trailer_in}
+use Rattle.frame_view.specs.FrameParts.{packet_of, segment_in, datagram_in, payload_in, payload_of, trailer_in}
 use Rattle.frame_view.specs.declared.field.Field.{Field}
 use Rattle.frame_view.specs.declared.field.Field.TheVariants.{LinkHeader, Version, HeaderLength, TypeOfService, TotalLength, Identification, ReservedBit, DontFragment, MoreFragments, FragmentOffset, Ttl, Protocol, HeaderChecksum, Source, Destination, IpOptions, SourcePort, DestinationPort, Sequence, Acknowledgment, DataOffset, Reserved, Flags, Window, Checksum, UrgentPointer, TcpOptions, UdpLength, Payload, Trailer}
 

@@ -3,7 +3,7 @@ ghost use Rattle.std.specs.Prelude.{◌≡◌, ◌++◌, ◌∷◌, [], map, OnO
 ghost use Rattle.frame_view.specs.Changes.{changes_of, made_of, plain, plain_said};
 ghost use Rattle.frame_view.specs.Changes as spec;
 ghost use Rattle.frame_view.specs.Readings.{reading};
-ghost use Rattle.frame_view.specs.Shapes.{AreAlike, FitsField, plain_reading};
+ghost use Rattle.frame_view.specs.working.ReadingShapes.{AreAlike, FitsField, plain_reading};
 ghost use Rattle.std.specs.Str.{bytes_eq};
 
 use crate::field::FIELDS;

@@ -1,8 +1,8 @@
 //! What the headers of a packet say in short.
 ghost use Rattle.std.specs.Prelude.{◌≡◌, option_map};
 ghost use Rattle.frame_view.specs.Flows.{ethertype_in, flow_in, icmp_marks_of, length_in, marks_of, ports_of};
-ghost use Rattle.frame_view.specs.Parts as parts;
-ghost use Rattle.frame_view.specs.Parts.{IsReadable};
+ghost use Rattle.frame_view.specs.FrameParts as parts;
+ghost use Rattle.frame_view.specs.FrameParts.{IsReadable};
 ghost use Rattle.frame_view.specs.Flows as spec;
 
 use crate::parts::{icmp_in, packet_of, payload_in, payload_of, ported_in, segment_in};
@@ -83,8 +83,8 @@ pub fn ethertype_of(link: Link, frame: &[u8]) -> Option<u16>
     Some(u16_at(frame, 12))
 }
 
-// Returns what the headers of a packet say, where its IPv4 header can be read.
-fn flow_of_packet(packet: &[u8]) -> Flow
+/// Returns what the headers of a packet say, where its IPv4 header can be read.
+pub fn flow_of_packet(packet: &[u8]) -> Flow
     requires { IsReadable packet.now }
     ensures { result ≡ spec.flow_of packet.now }
 {

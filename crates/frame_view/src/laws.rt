@@ -1,5 +1,5 @@
 //! Laws over the definitions alone.
-ghost use Rattle.frame_view.specs.Laws.{NothingDiffersIfEqual, SayTheSameIfEqual};
+ghost use Rattle.frame_view.specs.ReadingLaws.{NothingDiffersIfEqual, SayTheSameIfEqual};
 
 /// States that two frames say the same in each field exactly if they have the same octets, so
 /// nothing differs between a record and a frame exactly if their octets are the same.

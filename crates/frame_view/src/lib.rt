@@ -28,5 +28,7 @@ mod reading;
 
 pub use change::{Change, Made, PayloadChange, Replaced, Said, add_changes, add_made};
 pub use field::Field;
-pub use flow::{Flow, IcmpMarks, Ports, TcpMarks, ethertype_of, flow_of, length_of};
+pub use flow::{
+    Flow, IcmpMarks, Ports, TcpMarks, ethertype_of, flow_of, flow_of_packet, length_of,
+};
 pub use parts::{message_end, message_in, packet_of};

@@ -1,8 +1,9 @@
 //! The parts of a frame, each where its whole header can be read.
 ghost use Rattle.std.specs.Prelude.{◌≡◌, ◌≤◌, length, IfSome};
 ghost use Rattle.std.specs.Option.{option_copied};
-ghost use Rattle.frame_view.specs.Parts as spec;
-ghost use Rattle.frame_view.specs.Parts.{HasSegmentHeader, IsReadable};
+ghost use Rattle.frame_view.specs.FrameParts as spec;
+ghost use Rattle.frame_view.specs.working.SegmentHeaders.{HasSegmentHeader};
+ghost use Rattle.frame_view.specs.FrameParts.{IsReadable};
 ghost use Rattle.wire_base.specs.Ipv4 as ip;
 ghost use Rattle.wire_base.specs.Tcp as tcp;
 

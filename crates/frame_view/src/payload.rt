@@ -2,7 +2,7 @@
 ghost use Rattle.std.specs.Prelude.{◌≡◌, ◌+◌, ◌^◌, ◌<◌, ◌≤◌, min, false, [], ◌∷◌, ◌++◌, length, drop, map, option_to_list, IfOk, OnOk};
 ghost use Rattle.frame_view.specs.Changes.{cut_at_front, plain_payload, plain_replaced};
 ghost use Rattle.frame_view.specs.Changes as spec;
-ghost use Rattle.frame_view.specs.Parts as parts;
+ghost use Rattle.frame_view.specs.FrameParts as parts;
 ghost use Rattle.frame_view.specs.Readings.{reading};
 ghost use Rattle.frame_view.specs.declared.field.Field.{Field};
 

@@ -1,9 +1,10 @@
 //! What a frame says in each field.
 ghost use Rattle.std.specs.Prelude.{◌≡◌, ◌≤◌, length};
 ghost use Rattle.frame_view.specs.Readings as spec;
-ghost use Rattle.frame_view.specs.Parts as parts;
-ghost use Rattle.frame_view.specs.Parts.{HasSegmentHeader, IsReadable};
-ghost use Rattle.frame_view.specs.Shapes.{FitsField, plain_reading};
+ghost use Rattle.frame_view.specs.FrameParts as parts;
+ghost use Rattle.frame_view.specs.working.SegmentHeaders.{HasSegmentHeader};
+ghost use Rattle.frame_view.specs.FrameParts.{IsReadable};
+ghost use Rattle.frame_view.specs.working.ReadingShapes.{FitsField, plain_reading};
 
 use crate::Field;
 use crate::parts::{

@@ -1,12 +1,14 @@
 //! Which record first sent an octet: of the stream of an era, and of a datagram in fragments.
-ghost use Rattle.frame_view.specs.Parts.{IsReadable};
+ghost use Rattle.frame_view.specs.FrameParts.{IsReadable};
 
 use crate::NotedLine;
 use crate::fragments::{datagram_of, is_completing};
 use crate::held::{Clash, Held};
 use crate::line::{is_drop, is_fragment, marks_of, names};
 use edge_io::NoMemory;
-use frame_view::{Change, Flow, Made, PayloadChange, TcpMarks, flow_of, message_in, packet_of};
+use frame_view::{
+    Change, Flow, Made, PayloadChange, TcpMarks, flow_of_packet, message_in, packet_of,
+};
 use indexmap::IndexMap;
 use rule_book::{Ended, Entry, Rule};
 use std::alloc::Global;
@@ -88,13 +90,10 @@ impl Sent {
         let (Some(era), true) = (era, span.length > 0) else {
             return Ok(());
         };
-        if let Some(spans) = self.eras.get_mut(&era) {
-            spans.push(span)?;
-            return Ok(());
-        }
-        let mut spans = Vec::new(alloc);
-        spans.push(span)?;
-        self.eras.insert(era, spans)?;
+        self.eras
+            .entry(era)?
+            .or_insert_with(|| Vec::new(alloc))
+            .push(span)?;
         Ok(())
     }
 }
@@ -119,23 +118,19 @@ impl Firsts {
     pub fn take(&mut self, alloc: Global, line: NotedLine<'_>) -> Result<Option<Clash>, NoMemory> {
         self.newest = None;
         self.first.end_all(line.entry.ended.as_slice());
-        match (
-            flow_of(line.link, line.octets),
-            packet_of(line.link, line.octets),
-        ) {
-            (Some(flow), Some(packet)) => {
-                let marks = marks_of(flow);
-                self.first.acknowledge(line.entry, marks);
-                self.newest = Some(Newest {
-                    number: line.entry.number,
-                    marks,
-                    length: flow.length,
-                    era: inbound_era(line.entry),
-                });
-                self.take_fragment(alloc, line.entry, flow, packet)
-            }
-            _ => Ok(None),
-        }
+        let Some(packet) = packet_of(line.link, line.octets) else {
+            return Ok(None);
+        };
+        let flow = flow_of_packet(packet);
+        let marks = marks_of(flow);
+        self.first.acknowledge(line.entry, marks);
+        self.newest = Some(Newest {
+            number: line.entry.number,
+            marks,
+            length: flow.length,
+            era: inbound_era(line.entry),
+        });
+        self.take_fragment(alloc, line.entry, flow, packet)
     }
 
     /// Takes the frames in OUT of a line of the newest record, by the first engine alone or by the

@@ -80,10 +80,7 @@ impl Fragments {
 
     // Returns how many fragments of a datagram are held.
     fn held(&self, key: DatagramKey) -> u64 {
-        match self.datagrams.get(&key) {
-            Some(held) => *held,
-            None => 0,
-        }
+        self.datagrams.get(&key).copied().unwrap_or(0)
     }
 }
 
@@ -110,21 +107,15 @@ pub(crate) fn count_number(counts: &mut Numbered, number: Option<u32>) -> Result
     let Some(number) = number else {
         return Ok(());
     };
-    let count = match counts.get(&number) {
-        Some(count) => *count,
-        None => 0,
-    };
-    counts.insert(number, count.saturating_add(1))?;
+    let count = counts.entry(number)?.or_insert(0);
+    *count = count.saturating_add(1);
     Ok(())
 }
 
 /// Returns the counts as a list.
 pub(crate) fn listed(alloc: Global, counts: &Numbered) -> Result<Vec<NumberCount>, NoMemory> {
     let mut list = Vec::new(alloc);
-    for place in 0..counts.len() {
-        let Some((number, count)) = counts.get_index(place) else {
-            unreachable!();
-        };
+    for (number, count) in counts {
         list.push(NumberCount {
             number: *number,
             count: *count,

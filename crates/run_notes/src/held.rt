@@ -138,16 +138,11 @@ impl Held {
         octets: &[u8],
     ) -> Result<(), NoMemory> {
         self.make_room(key, at.saturating_add(octets.len()));
-        if let Some(datagram) = self.datagrams.get_mut(&key) {
-            return datagram.add(record, at, octets);
-        }
-        let mut datagram = Datagram {
+        let datagram = self.datagrams.entry(key)?.or_insert_with(|| Datagram {
             octets: Vec::new(alloc),
             records: Vec::new(alloc),
-        };
-        datagram.add(record, at, octets)?;
-        self.datagrams.insert(key, datagram)?;
-        Ok(())
+        });
+        datagram.add(record, at, octets)
     }
 
     // Counts the octets of a datagram up to this end, and forgets all where there are too many.
@@ -162,9 +157,8 @@ impl Held {
 
     // Returns the number of octets that are kept of a datagram.
     fn length(&self, key: DatagramKey) -> usize {
-        match self.datagrams.get(&key) {
-            Some(datagram) => datagram.octets.len(),
-            None => 0,
-        }
+        self.datagrams
+            .get(&key)
+            .map_or(0, |datagram| datagram.octets.len())
     }
 }

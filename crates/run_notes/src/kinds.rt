@@ -123,18 +123,12 @@ impl Full {
 
 // Returns whether the packet goes neither to a group nor to an address that ends in 255.
 fn is_foreign(flow: Option<Flow>) -> bool {
-    match flow {
-        Some(flow) => !is_multicast(flow) && flow.dst.0 % 256 != 255,
-        None => false,
-    }
+    flow.is_some_and(|flow| !is_multicast(flow) && flow.dst.0 % 256 != 255)
 }
 
 // Returns whether the packet is a tunnel to one host.
 fn is_tunnelled(flow: Option<Flow>) -> bool {
-    match flow {
-        Some(flow) => is_tunnel(flow.protocol) && !is_multicast(flow),
-        None => false,
-    }
+    flow.is_some_and(|flow| is_tunnel(flow.protocol) && !is_multicast(flow))
 }
 
 fn is_tunnel(protocol: u8) -> bool {
@@ -144,17 +138,11 @@ fn is_tunnel(protocol: u8) -> bool {
 // Returns whether the line is of a segment with ACK and neither SYN nor RST, and has a side, or was
 // dropped before its addresses were judged.
 fn is_answering(entry: &Entry, flow: Option<Flow>) -> bool {
-    match flow {
-        Some(flow) => answers(marks_of(flow)) && has_side_or_fault(entry),
-        None => false,
-    }
+    flow.is_some_and(|flow| answers(marks_of(flow)) && has_side_or_fault(entry))
 }
 
 fn answers(tcp: Option<TcpMarks>) -> bool {
-    match tcp {
-        Some(marks) => marks.flags.ack() && !marks.flags.syn() && !marks.flags.rst(),
-        None => false,
-    }
+    tcp.is_some_and(|marks| marks.flags.ack() && !marks.flags.syn() && !marks.flags.rst())
 }
 
 fn has_side_or_fault(entry: &Entry) -> bool {

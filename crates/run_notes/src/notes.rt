@@ -1,5 +1,5 @@
 //! All that is counted for the notes of a run.
-ghost use Rattle.frame_view.specs.Parts.{IsReadable};
+ghost use Rattle.frame_view.specs.FrameParts.{IsReadable};
 
 use crate::NotedLine;
 use crate::early::EarlyDrops;
@@ -12,7 +12,7 @@ use crate::sums::Sums;
 use crate::tuples::Tuples;
 use crate::twins::Twins;
 use edge_io::NoMemory;
-use frame_view::{Flow, TcpMarks, ethertype_of, flow_of, packet_of};
+use frame_view::{Flow, TcpMarks, ethertype_of, flow_of_packet, packet_of};
 use indexmap::IndexMap;
 use rule_book::{Entry, Rule};
 use std::alloc::Global;
@@ -57,9 +57,12 @@ impl Notes {
     /// Counts one more line of the first engine. Fails only if memory cannot be allocated; what is
     /// counted then is out of date.
     pub fn take(&mut self, line: NotedLine<'_>) -> Result<(), NoMemory> {
-        let flow = flow_of(line.link, line.octets);
-        self.take_entry(line, flow)?;
         let packet = packet_of(line.link, line.octets);
+        let flow = match packet {
+            Some(packet) => Some(flow_of_packet(packet)),
+            None => None,
+        };
+        self.take_entry(line, flow)?;
         match (flow, packet) {
             (Some(flow), Some(packet)) => self.take_packet(line.entry, flow, packet),
             _ => {
@@ -97,6 +100,9 @@ impl Notes {
         self.early.count(entry);
         self.tuples.begun = plus_if(entry.begun.is_some(), self.tuples.begun);
         self.streams.end_all(entry.ended.as_slice())?;
+        if entry.rules.is_empty() {
+            return Ok(());
+        }
         count_number(&mut self.types, type_of(line))?;
         count_number(
             &mut self.protocols,
@@ -152,10 +158,7 @@ fn type_of(line: NotedLine<'_>) -> Option<u32> {
     if !names(line.entry.rules.as_slice(), Rule::LType) {
         return None;
     }
-    match ethertype_of(line.link, line.octets) {
-        Some(kind) => Some(u32::from(kind)),
-        None => None,
-    }
+    ethertype_of(line.link, line.octets).map(u32::from)
 }
 
 // Returns the protocol of a packet that is dropped for it.

@@ -1,6 +1,6 @@
 //! What is known of the streams of each era.
 ghost use Rattle.std.specs.Prelude.{◌<◌, ◌^◌};
-ghost use Rattle.frame_view.specs.Parts.{IsReadable};
+ghost use Rattle.frame_view.specs.FrameParts.{IsReadable};
 
 use crate::BySide;
 use crate::coverage::{Coverage, Run};
@@ -193,30 +193,17 @@ impl StreamTable {
 
     /// Returns whether an era was evicted.
     pub(crate) fn is_evicted(&self, era: u32) -> bool {
-        match self.eras.get(&era) {
-            Some(streams) => streams.evicted,
-            None => false,
-        }
+        self.eras.get(&era).is_some_and(|streams| streams.evicted)
     }
 
     /// Notes which of these eras were evicted.
     pub(crate) fn end_all(&mut self, ended: &[Ended]) -> Result<(), NoMemory> {
+        let alloc = self.alloc;
         for one in ended {
-            self.end(*one)?;
+            let entry = self.eras.entry(one.era)?;
+            let streams = entry.or_insert_with(|| EraStreams::new(alloc));
+            streams.evicted = matches!(one.reason, Reason::Evicted);
         }
-        Ok(())
-    }
-
-    // Notes whether an era was evicted.
-    fn end(&mut self, ended: Ended) -> Result<(), NoMemory> {
-        let evicted = matches!(ended.reason, Reason::Evicted);
-        if let Some(streams) = self.eras.get_mut(&ended.era) {
-            streams.evicted = evicted;
-            return Ok(());
-        }
-        let mut streams = EraStreams::new(self.alloc);
-        streams.evicted = evicted;
-        self.eras.insert(ended.era, streams)?;
         Ok(())
     }
 
@@ -227,22 +214,17 @@ impl StreamTable {
         side: Side,
         segment: SegmentSeen,
     ) -> Result<(), NoMemory> {
-        if let Some(streams) = self.eras.get_mut(&era) {
-            return streams.take(side, segment);
-        }
-        let mut streams = EraStreams::new(self.alloc);
-        streams.take(side, segment)?;
-        self.eras.insert(era, streams)?;
-        Ok(())
+        let alloc = self.alloc;
+        let entry = self.eras.entry(era)?;
+        entry
+            .or_insert_with(|| EraStreams::new(alloc))
+            .take(side, segment)
     }
 
     /// Returns what the streams of all eras lack, and what followed its acknowledgment.
     pub(crate) fn faults(&self) -> StreamFaults {
         let mut faults = StreamFaults::default();
-        for place in 0..self.eras.len() {
-            let Some((_, streams)) = self.eras.get_index(place) else {
-                unreachable!();
-            };
+        for (_, streams) in &self.eras {
             faults.add(Side::Inward, &streams.inward);
             faults.add(Side::Outward, &streams.outward);
         }

@@ -1,5 +1,5 @@
 //! Checksums that a stack leaves to the network card, and others that are wrong.
-ghost use Rattle.frame_view.specs.Parts.{IsReadable};
+ghost use Rattle.frame_view.specs.FrameParts.{IsReadable};
 
 use crate::BySide;
 use crate::line::{is_fragment, names, number_at};
@@ -36,6 +36,9 @@ impl Sums {
         }
         self.carried.add_if(is_carried(flow), entry.side);
         let rules = entry.rules.as_slice();
+        if rules.is_empty() {
+            return;
+        }
         let left = is_left(rules, flow, packet);
         self.to_card.add_if(left, entry.side);
         self.wrong.add_if(is_wrong(rules, left), entry.side);

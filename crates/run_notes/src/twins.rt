@@ -1,12 +1,20 @@
 //! Packets that a capture has twice.
-ghost use Rattle.frame_view.specs.Parts.{IsReadable};
+ghost use Rattle.frame_view.specs.FrameParts.{IsReadable};
 
 use crate::line::{is_fragment, octet_at, plus_if};
 use edge_io::NoMemory;
 use frame_view::{Flow, message_end};
 use std::alloc::Global;
-use std::mem;
 use wire_base::protocol;
+
+/// The packet of one of the last four records.
+#[derive(Drop)]
+struct Recent {
+    /// Its mark, in which it differs from most others.
+    mark: u64,
+    /// Its octets; none of a record that is no candidate.
+    octets: Vec<u8>,
+}
 
 /// How many packets are in a capture twice, and those of the last four records.
 #[derive(Drop)]
@@ -15,12 +23,29 @@ pub(crate) struct Twins {
     pub(crate) candidates: u64,
     /// How many of them equal one of the four records before them.
     pub(crate) twice: u64,
-    /// The octets of the packets of the last four records, the newest first; none of a record that
-    /// is no candidate.
-    first: Vec<u8>,
-    second: Vec<u8>,
-    third: Vec<u8>,
-    fourth: Vec<u8>,
+    recent: [Recent; 4],
+    /// The place of the newest of them, modulo 4.
+    newest: usize,
+}
+
+impl Recent {
+    // Returns that there is no record yet.
+    fn new(alloc: Global) -> Recent {
+        Recent {
+            mark: 0,
+            octets: Vec::new(alloc),
+        }
+    }
+
+    // Returns whether a packet with this mark equals this one but for the time to live and the
+    // header checksum.
+    fn is_twin(&self, mark: u64, octets: &[u8]) -> bool {
+        let own = self.octets.as_slice();
+        self.mark == mark
+            && octet_at(own, 9) == octet_at(octets, 9)
+            && front(own) == front(octets)
+            && after_checksum(own) == after_checksum(octets)
+    }
 }
 
 impl Twins {
@@ -29,10 +54,13 @@ impl Twins {
         Twins {
             candidates: 0,
             twice: 0,
-            first: Vec::new(alloc),
-            second: Vec::new(alloc),
-            third: Vec::new(alloc),
-            fourth: Vec::new(alloc),
+            recent: [
+                Recent::new(alloc),
+                Recent::new(alloc),
+                Recent::new(alloc),
+                Recent::new(alloc),
+            ],
+            newest: 0,
         }
     }
 
@@ -44,34 +72,25 @@ impl Twins {
             self.pass();
             return Ok(());
         }
-        self.take_candidate(&packet[..message_end(packet)])
+        self.take_candidate(mark_of(flow), &packet[..message_end(packet)])
     }
 
     /// Takes a record that is no candidate.
     pub(crate) fn pass(&mut self) {
-        mem::swap(&mut self.third, &mut self.fourth);
-        mem::swap(&mut self.second, &mut self.third);
-        mem::swap(&mut self.first, &mut self.second);
-        self.first.clear();
+        self.newest = self.newest.wrapping_add(1);
+        self.recent[self.newest % 4].octets.clear();
     }
 
     // Takes a packet with an identification.
-    fn take_candidate(&mut self, octets: &[u8]) -> Result<(), NoMemory> {
-        let found = self.has_twin(octets);
+    fn take_candidate(&mut self, mark: u64, octets: &[u8]) -> Result<(), NoMemory> {
+        let found = self.recent.iter().any(|other| other.is_twin(mark, octets));
         self.twice = plus_if(found, self.twice);
         self.candidates = self.candidates.saturating_add(1);
         self.pass();
-        self.first.extend_from_slice(octets)?;
+        let newest = &mut self.recent[self.newest % 4];
+        newest.mark = mark;
+        newest.octets.extend_from_slice(octets)?;
         Ok(())
-    }
-
-    // Returns whether one of the four is a twin of the packet.
-    fn has_twin(&self, octets: &[u8]) -> bool {
-        let first = is_twin(octets, self.first.as_slice());
-        let second = is_twin(octets, self.second.as_slice());
-        let third = is_twin(octets, self.third.as_slice());
-        let fourth = is_twin(octets, self.fourth.as_slice());
-        first || second || third || fourth
     }
 }
 
@@ -84,13 +103,9 @@ fn is_candidate(flow: Flow) -> bool {
     known && flow.identification != 0 && !is_fragment(flow)
 }
 
-// Returns whether two packets are equal but for the time to live and the header checksum. The low
-// octet of the identification differs between most packets.
-fn is_twin(a: &[u8], b: &[u8]) -> bool {
-    octet_at(a, 5) == octet_at(b, 5)
-        && octet_at(a, 9) == octet_at(b, 9)
-        && front(a) == front(b)
-        && after_checksum(a) == after_checksum(b)
+// Returns what twins have in common: source, identification, and the length of the payload.
+fn mark_of(flow: Flow) -> u64 {
+    u64::from(flow.src.0) << 32 | u64::from(flow.identification) << 16 | flow.length % 0x1_0000
 }
 
 // Returns the octets before the time to live.

@@ -1,6 +1,6 @@
 -- The files of a finished run have, after any items that they give, the next line with its record
 -- and frames, or their ends.
-use Rattle.std.proofs.Common.{◌≡◌, ◌⊎◌, ℕ, ◌+◌, ◌<◌, ◌≤◌, Bool, true, false, List, [], ◌∷◌, ◌++◌, length, Option, Some, None, IfSome, if◌then◌else◌, refl, sym, ap, subst, ◌∙◌, inl, inr, arith, length-append, append-nil, append_assoc}
+use Rattle.std.proofs.Common.{◌≡◌, ◌⊎◌, ℕ, ◌+◌, ◌<◌, Bool, true, false, List, [], ◌∷◌, ◌++◌, length, Option, Some, None, IfSome, if◌then◌else◌, refl, sym, ap, subst, ◌∙◌, inl, inr, arith, length-append, append-nil, append_assoc}
 use Rattle.std.specs.Io.KnownBytes.{Consumes}
 use Rattle.std.proofs.lemmas.List.{append_cancel_left}
 use Rattle.pcap_file.specs.declared.head.Head.{Head}
@@ -11,22 +11,23 @@ use Rattle.rule_book.specs.Entries.{PlainEntry}
 use Rattle.rule_book.specs.Text.{last_text}
 use Rattle.rule_book.specs.declared.last.Last.TheVariants.{End}
 use Rattle.run_view.specs.Forms.{heading, is_both, version_of}
-use Rattle.run_view.specs.Contents.{HasNextLine, IsOver, IsSomeOctet}
-use Rattle.run_view.proofs.ReportNext.{BeginsWithFrames, BeginsWithRecords, IsNoNext, TookLast, frames_by}
-use Rattle.run_view.specs.Items.{AreItems, Item, Line, end_text, frames_of, is_only_copy, is_passed, is_second, lines_of, lines_text, owed_of, packets_of, text_by, turn_of, waits}
-use Rattle.edge_io.specs.Faults.{Rose}
-use Rattle.run_view.specs.Runs.{AreNoRest, AreNoRun, AreOfARun, FaultCounts, IsNoCapture, IsNoInput, SourceRose, Sources, sources_of}
-use Rattle.run_view.specs.Steps.{PlainOriginal, RecordStop}
-use Rattle.run_view.specs.Stops.{FilesStop, IsNoFirst, RestStop, Says}
+use Rattle.run_view.specs.working.SourceContents.{HasNextLine, IsOver, IsSomeOctet}
+use Rattle.run_view.proofs.Fronts.{IsNoNext, TookLast, frames_by, heading_front, heading_one}
+use Rattle.run_view.proofs.Oldest.{BeginsWithFrames, BeginsWithRecords, oldest_frames, HasAllFrames, HasAllRecords, all_frames, all_records, frames_most, has_frames, has_records, records_most}
+use Rattle.run_view.specs.Items.{AreItems, Item, Line, end_text, frames_of, is_only_copy, is_passed, is_second, lines_of, lines_text, owed_of, packets_of, text_by}
+use Rattle.run_view.specs.working.LinePositions.{turn_of, waits}
+use Rattle.edge_io.specs.FaultCounts.{Rose}
+use Rattle.run_view.specs.working.RestOfRun.{AreNoRest}
+use Rattle.run_view.specs.RunFiles.{AreNoRun, AreOfARun, FaultCounts, IsNoCapture, IsNoInput, SourceRose, Sources, sources_of}
+use Rattle.run_view.specs.working.RecordReading.{PlainOriginal, RecordStop}
+use Rattle.run_view.specs.working.StopCauses.{FilesStop, IsNoFirst, RestStop}
+use Rattle.run_view.specs.StopMeanings.{Says}
 use Rattle.run_view.specs.declared.stop.Stop.{Stop}
 use Rattle.run_view.specs.declared.form.Form.{Form}
 use Rattle.run_view.specs.declared.turn.Turn.{Turn}
-use Rattle.run_view.proofs.Fronts.{heading_front, heading_one}
 use Rattle.run_view.proofs.Numbered.{AreLines, AtEnd, IsNextOf, are_lines, compare, done_if, few_firsts, firsts_in, firsts_length, frames_total, in_front, no_entry_end, one_entry, owed_in, owed_is, records_length, small_total, total, turn_behind, turn_lines}
-use Rattle.run_view.proofs.Oldest.{oldest_frames}
 use Rattle.run_view.proofs.SameItems.{IsComparedWith, IsOfNext, frames_behind, frames_counted, has_line, items_behind, next_is, packets_behind, same_before, same_behind}
 use Rattle.run_view.proofs.Stopping.{says_more}
-use Rattle.run_view.proofs.Sizes.{HasAllFrames, HasAllRecords, all_frames, all_records, frames_most, has_frames, has_records, records_most}
 
 -- the text of the last line after these
 abbrev end_behind : (form : Form) → List Line → List ℕ

@@ -1,23 +1,14 @@
-mod Accepted
-mod Commas
-mod Ending
+mod Conditions
+mod Shown
 mod Finished
-mod Frames
+mod Records
 mod Fronts
-pub mod Heads
+pub mod OneRun
 mod LineTaken
 mod Lining
 mod NextLine
 mod NoStops
 pub mod Numbered
 mod Oldest
-mod OneRun
 mod SameItems
-mod OtherLines
-mod Records
-mod Results
-mod Shown
-mod Sizes
-mod Starting
 mod Stopping
-mod ReportNext

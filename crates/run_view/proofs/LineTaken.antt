@@ -1,11 +1,10 @@
 -- One more line of a run was taken: what was read and shown of it.
-use Rattle.std.proofs.Common.{◌≡◌, ℕ, zero, suc, ◌+◌, ◌==◌, ◌&&◌, ◌||◌, Bool, true, false, List, [], ◌∷◌, ◌++◌, Option, Some, None, refl, sym, ap, subst, ◌∙◌, inl, inr, arith, length-append, map, if◌then◌else◌}
-use Rattle.wire_base.specs.declared.address.Link.{Link}
+use Rattle.std.proofs.Common.{◌≡◌, ℕ, zero, suc, ◌+◌, ◌==◌, ◌&&◌, ◌||◌, Bool, true, false, List, [], ◌∷◌, Option, Some, None, refl, sym, ap, subst, ◌∙◌, inl, inr, arith, length-append, map, if◌then◌else◌}
 use Rattle.pcap_file.specs.declared.head.Head.{Head}
 use Rattle.pcap_file.specs.Records.{Packet}
-use Rattle.rule_book.specs.Entries.{PlainEntry, plain}
-use Rattle.rule_book.specs.Reports.{IsEntryOf}
-use Rattle.view_text.specs.Lines.{PlainLine, plain_line}
+use Rattle.rule_book.specs.Entries.{PlainEntry}
+use Rattle.rule_book.specs.ReportReading.{IsEntryOf}
+use Rattle.view_text.specs.PlainLines.{plain_line}
 use Rattle.run_view.specs.declared.item.Files.{Files}
 use Rattle.run_view.specs.declared.item.Frames.{Frames}
 use Rattle.run_view.specs.declared.item.Gathered.{Gathered}
@@ -16,21 +15,23 @@ use Rattle.run_view.specs.declared.form.Form.{Form}
 use Rattle.run_view.specs.declared.show.Printing.{Printing}
 use Rattle.run_view.specs.declared.tally.Tally.{Tally}
 use Rattle.run_view.specs.declared.viewer.Viewer.{Viewer}
-use Rattle.run_view.specs.Chosen.{either, meets_record, met_by, met_of}
-use Rattle.run_view.specs.Events.{newest_event, records_shown}
+use Rattle.run_view.specs.ChosenRecords.{either, meets_record, met_by, met_of}
+use Rattle.run_view.specs.ShownEvents.{newest_event, records_shown}
 use Rattle.run_view.specs.Forms.{answers, is_both, own_frames, version_of}
-use Rattle.run_view.specs.Items.{Item, by_first, flow_at, frames_of, is_passed, is_unchanged, kinds_in, line_by, nanoseconds, owed_of, packets_of, time_of, waits}
-use Rattle.run_view.specs.Judged.{is_pass, kinds_by}
-use Rattle.run_view.specs.ShownLines.{NotesLine, PlainShown, line_of_shown, lines_with, met_shown}
-use Rattle.run_view.specs.ViewerAt.{Ends, HoldsNewest, PrintsSo, ViewerAt, Taken, ends_of}
-use Rattle.run_view.specs.Readers.{InputAt}
-use Rattle.run_view.specs.Steps.{Holds, IsGathered, PlainOriginal, RecordRead, RecordStop, is_copied}
-use Rattle.run_view.specs.Contents.{HasNextLine}
-use Rattle.run_view.specs.Progress.{Going}
-use Rattle.run_view.specs.Runs.{AreNoRest, IsNoCapture, IsNoInput, sources_of}
-use Rattle.run_view.specs.Stops.{Says}
+use Rattle.run_view.specs.Items.{Item, by_first, flow_at, frames_of, is_passed, is_unchanged, kinds_in, line_by, nanoseconds, owed_of, packets_of, time_of}
+use Rattle.run_view.specs.working.LinePositions.{waits}
+use Rattle.run_view.specs.LineJudgments.{is_pass, kinds_by}
+use Rattle.run_view.specs.working.ShownLines.{NotesLine, PlainShown, line_of_shown, lines_with, met_shown}
+use Rattle.run_view.specs.working.ViewerProgress.{Ends, HoldsNewest, PrintsSo, ViewerAt, Taken, ends_of}
+use Rattle.run_view.specs.working.ReaderPositions.{InputAt}
+use Rattle.run_view.specs.working.RecordReading.{Holds, IsGathered, PlainOriginal, RecordRead, RecordStop, is_copied}
+use Rattle.run_view.specs.working.SourceContents.{HasNextLine}
+use Rattle.run_view.specs.working.LineProgress.{Going}
+use Rattle.run_view.specs.working.RestOfRun.{AreNoRest}
+use Rattle.run_view.specs.RunFiles.{IsNoCapture, IsNoInput, sources_of}
+use Rattle.run_view.specs.StopMeanings.{Says}
 use Rattle.run_view.specs.declared.stop.Stop.{Stop}
-use Rattle.edge_io.specs.Faults.{Rose}
+use Rattle.edge_io.specs.FaultCounts.{Rose}
 use Rattle.run_view.proofs.Finished.{record_stop}
 use Rattle.run_view.proofs.NextLine.{told_of}
 use Rattle.run_view.proofs.Records.{begins_at}

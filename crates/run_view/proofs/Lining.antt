@@ -6,10 +6,10 @@ use Rattle.std.proofs.lemmas.Bool.{ltb-false, ltb-true}
 use Rattle.std.specs.Io.KnownBytes.{Consumes, IsAtEnd, Keeps, prepend_known}
 use Rattle.std.proofs.lemmas.List.{drop-drop, length-append, length-drop, length-take, length-take-le, take-append-le, take-take, take_at, take_min}
 use Rattle.std.proofs.Math.Seq.{take-add, take-append-add}
-use Rattle.edge_io.specs.Octets.{TakesFewer}
-use Rattle.run_view.specs.ReadAhead.{GoesOn, TookLine}
-use Rattle.run_view.specs.Contents.{IsSomeOctet}
-use Rattle.run_view.specs.Lines.{front_line}
+use Rattle.edge_io.specs.KnownOctets.{TakesFewer}
+use Rattle.run_view.specs.working.LinesAhead.{GoesOn, TookLine}
+use Rattle.run_view.specs.working.SourceContents.{IsSomeOctet}
+use Rattle.run_view.specs.working.FrontLine.{front_line}
 
 -- the octet is a line feed
 abbrev pub is_feed : ℕ → Bool

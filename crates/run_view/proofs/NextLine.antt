@@ -1,25 +1,27 @@
 -- How a view goes on by one more line of the report.
-use Rattle.std.proofs.Common.{◌≡◌, ℕ, ◌+◌, ◌<◌, ◌^◌, Bool, true, false, List, [], ◌∷◌, ◌++◌, Option, None, refl, sym, subst, arith, if◌then◌else◌}
+use Rattle.std.proofs.Common.{◌≡◌, ℕ, ◌+◌, List, [], ◌∷◌, ◌++◌, Option, None, sym, subst}
 use Rattle.std.specs.Prelude.{IfSome}
 use Rattle.std.specs.Io.KnownBytes.{Consumes}
 use Rattle.std.proofs.KnownBytes.{Consumes-trans}
 use Rattle.pcap_file.specs.declared.head.Head.{Head}
 use Rattle.rule_book.specs.Entries.{PlainEntry}
-use Rattle.rule_book.specs.Reports.{IsEntryOf}
+use Rattle.rule_book.specs.ReportReading.{IsEntryOf}
 use Rattle.run_view.specs.declared.line.Lines.{Lines}
 use Rattle.run_view.specs.declared.show.Printing.{Printing}
 use Rattle.run_view.specs.declared.turn.Turn.{Turn}
 use Rattle.run_view.specs.declared.viewer.Viewer.{Viewer}
-use Rattle.run_view.specs.ReadAhead.{left_in}
-use Rattle.run_view.specs.Events.{Event, Shows}
-use Rattle.run_view.specs.Contents.{HasNextLine, ToldNext}
-use Rattle.run_view.proofs.ReportNext.{IsNoNext}
-use Rattle.run_view.specs.Progress.{Going}
+use Rattle.run_view.specs.working.LinesAhead.{left_in}
+use Rattle.run_view.specs.ShownEvents.{Event, Shows}
+use Rattle.run_view.specs.working.SourceContents.{HasNextLine, ToldNext}
+use Rattle.run_view.proofs.Fronts.{IsNoNext}
+use Rattle.run_view.specs.working.LineProgress.{Going}
 use Rattle.run_view.specs.Forms.{version_of}
-use Rattle.run_view.specs.Items.{Item, Line, line_by, line_of, lines_of, lines_text, text_by, turn_at, turn_of, waits}
-use Rattle.run_view.specs.ViewerAt.{Ends, HoldsNewest, MayTake, ViewerAt, Taken, WentOn, ends_of, lines_in, turn_in}
-use Rattle.run_view.specs.ShownLines.{due_event}
-use Rattle.run_view.specs.Runs.{AreNoRest, sources_of}
+use Rattle.run_view.specs.Items.{Item, Line, line_by, line_of, lines_of, lines_text, text_by}
+use Rattle.run_view.specs.working.LinePositions.{turn_at, turn_of}
+use Rattle.run_view.specs.working.ViewerProgress.{Ends, HoldsNewest, ViewerAt, Taken, ends_of, turn_in}
+use Rattle.run_view.specs.working.ShownLines.{due_event}
+use Rattle.run_view.specs.working.RestOfRun.{AreNoRest}
+use Rattle.run_view.specs.RunFiles.{sources_of}
 use Rattle.run_view.proofs.Finished.{Told, no_line}
 
 -- the position of the next line

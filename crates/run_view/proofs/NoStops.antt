@@ -1,16 +1,15 @@
 -- The files of a finished run are viewed, but for memory and faults; tables of eras and notes show
 -- no record.
-use Rattle.std.proofs.Common.{◌≡◌, ◌⊎◌, ◌&&◌, ◌==◌, not, ℕ, Bool, true, false, List, [], ◌∷◌, ◌++◌, Option, Some, Ok, refl, sym, ap, subst, ◌∙◌, inl, inr, if◌then◌else◌}
-use Rattle.std.specs.Prelude.{IfSome}
+use Rattle.std.proofs.Common.{◌≡◌, ◌&&◌, ◌==◌, not, ℕ, Bool, true, false, List, [], ◌∷◌, ◌++◌, Some, refl, sym, ap, subst, ◌∙◌, inl, inr, if◌then◌else◌}
 use Rattle.pcap_file.specs.declared.head.Head.{Head}
-use Rattle.run_view.specs.Chosen.{chooses_records, has_choice, meets_all, met_of}
-use Rattle.run_view.specs.Events.{chosen_of, ends_chosen, events_of, is_summed, of_count, of_record, record_lines, records_shown}
+use Rattle.run_view.specs.ChosenRecords.{chooses_records, has_choice, meets_all, met_of}
+use Rattle.run_view.specs.ShownEvents.{chosen_of, ends_chosen, events_of, is_summed, of_count, of_record, record_lines, records_shown}
 use Rattle.run_view.specs.Items.{Item, frames_of, packets_of}
-use Rattle.run_view.specs.Laws.{AreOfARun, HasFiles, NothingFails, OthersShowNoRecord, RunsAreViewed}
-use Rattle.run_view.specs.Runs.{FaultCounts, HaveTwoLinks, IsNoCapture, IsNoInput, IsNoOutput, Moment, Sources, sources_at, sources_of}
-use Rattle.run_view.specs.Stops.{status_of}
-use Rattle.run_view.specs.Viewed.{Cause}
-use Rattle.run_view.specs.Words.{asked_in}
+use Rattle.run_view.specs.ViewLaws.{AreOfARun, HasFiles, NothingFails, OthersShowNoRecord, RunsAreViewed}
+use Rattle.run_view.specs.RunFiles.{FaultCounts, HaveTwoLinks, IsNoInput, IsNoOutput, Moment, sources_at, sources_of}
+use Rattle.run_view.specs.StopMeanings.{status_of}
+use Rattle.run_view.specs.StatusMeanings.{Cause}
+use Rattle.run_view.specs.ViewWords.{asked_in}
 use Rattle.run_view.specs.declared.form.Form.{Form}
 use Rattle.run_view.specs.declared.stop.Stop.{Stop}
 use Rattle.run_view.specs.declared.stop.Stop.TheVariants as stops

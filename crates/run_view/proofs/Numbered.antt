@@ -5,17 +5,17 @@ use Rattle.std.specs.Io.KnownBytes.{Consumes}
 use Rattle.std.proofs.lemmas.Bool.{cases_lt}
 use Rattle.std.proofs.lemmas.List.{append_cancel_left}
 use Rattle.rule_book.specs.Entries.{PlainEntry}
-use Rattle.rule_book.specs.Reports.{EntryFits, IsEntryOf}
+use Rattle.rule_book.specs.ReportReading.{EntryFits, IsEntryOf}
 use Rattle.rule_book.specs.Text.{entry_text, last_text}
 use Rattle.rule_book.specs.declared.last.Last.TheVariants.{End}
 use Rattle.rule_book.proofs.Unique.{entry_no_last, entry_one}
-use Rattle.run_view.proofs.ReportNext.{frames_by}
+use Rattle.run_view.proofs.Fronts.{frames_by, end_front, line_front}
 use Rattle.run_view.specs.Forms.{answers, version_of}
-use Rattle.run_view.specs.Items.{AreItems, IsFirstLine, IsOfNewest, IsSecondLine, Item, Line, firsts, frames_of, is_second, lines_of, lines_text, owed_of, packets_in, packets_of, seconds, text_by, turn_at, turn_of, waits}
+use Rattle.run_view.specs.Items.{AreItems, IsFirstLine, IsOfNewest, IsSecondLine, Item, Line, firsts, frames_of, is_second, lines_of, lines_text, owed_of, packets_in, packets_of, seconds, text_by}
+use Rattle.run_view.specs.working.LinePositions.{turn_at, turn_of, waits}
 use Rattle.run_view.specs.declared.form.Form.{Form}
 use Rattle.run_view.specs.declared.form.Form.TheVariants.{Version1, Version2, Both}
 use Rattle.run_view.specs.declared.turn.Turn.{Turn}
-use Rattle.run_view.proofs.Fronts.{end_front, line_front}
 
 -- how many lines of each engine there are
 abbrev pub firsts_in : List Line → ℕ

@@ -1,23 +1,113 @@
--- What was read of an input, or of an output, has the oldest of all its records.
-use Rattle.std.proofs.Common.{◌≡◌, ℕ, ◌≤◌, List, [], ◌∷◌, ◌++◌, length, drop, Option, Some, None, Ok, refl, sym, ap, subst, ◌∙◌, inl, inr, arith, length-append}
-use Rattle.std.proofs.lemmas.Bool.{cases_lt}
-use Rattle.std.proofs.lemmas.List.{nil_from_length}
+-- What was read of an input or an output: what it begins with, how many records or frames it has,
+-- and that these are the oldest of all.
+use Rattle.std.proofs.Common.{◌≡◌, ℕ, List, Option, None, ◌≤◌, [], length, drop, Some, Ok, refl, sym, ap, subst, ◌∙◌, inl, inr, arith, ◌∷◌, ◌++◌, length-append}
 use Rattle.pcap_file.specs.declared.head.Head.{Head}
-use Rattle.pcap_file.specs.declared.order.Order.{Order}
-use Rattle.pcap_file.specs.Heads.{head_of}
 use Rattle.pcap_file.specs.Records.{Packet}
+use Rattle.capture_input.specs.Inputs.{Took, Walk, packets_in, BeginsWith, IsInput, blocks, records}
+use Rattle.run_view.specs.working.SourceContents.{TookFrames}
+use Rattle.std.proofs.lemmas.Bool.{cases_lt}
+use Rattle.pcap_file.specs.FileHead.{head_of}
 use Rattle.pcap_file.specs.Capture.{IsCapture, ReadsTo}
-use Rattle.pcap_file.proofs.Captures.{same_records}
+use Rattle.pcap_file.proofs.Captures.{HasNoRecord, goes_on, none_at_end, same_records}
+use Rattle.capture_input.proofs.Stops.{input_has_all}
+use Rattle.std.proofs.lemmas.List.{nil_from_length}
+use Rattle.pcap_file.specs.declared.record.Order.{Order}
 use Rattle.pcapng_file.specs.Blocks.{Step}
 use Rattle.pcapng_file.specs.Sections.{Walks, packets_of as packets_of_steps}
-use Rattle.pcapng_file.specs.Standing.{no_section}
+use Rattle.pcapng_file.specs.SectionState.{no_section}
 use Rattle.pcapng_file.proofs.Sections.{packets_on}
-use Rattle.capture_input.specs.Inputs.{BeginsWith, IsInput, Took, Walk, blocks, packets_in, records}
 use Rattle.capture_input.proofs.Inputs.{accepted, go_on, one_kind}
-use Rattle.capture_input.proofs.Stops.{input_has_all}
-use Rattle.run_view.specs.Contents.{TookFrames}
-use Rattle.run_view.proofs.ReportNext.{BeginsWithFrames, BeginsWithRecords}
-use Rattle.run_view.proofs.Sizes.{frames_most, has_frames}
+
+-- What an input and an output begin with.
+
+-- the input begins with this head and these records
+pub record BeginsWithRecords (input : Option (List ℕ)) (head : Head) (packets : List Packet) : Type 0 where
+  pub walk : Walk
+  pub left : Option (List ℕ)
+  pub took : Took None input left head walk
+  pub packets_are : packets_in walk ≡ packets
+
+-- the output begins with this head and these frames
+pub record BeginsWithFrames (output : Option (List ℕ)) (head : Head) (frames : List Packet) : Type 0 where
+  pub left : Option (List ℕ)
+  pub took : TookFrames output left head frames
+
+-- How many records and frames there are.
+
+-- the input begins with this number of records
+pub record HasRecords (input : List ℕ) (count : ℕ) : Type 0 where
+  pub head : Head
+  pub walk : Walk
+  pub rest : List ℕ
+  pub begins : BeginsWith None input head walk rest
+  pub long : length (packets_in walk) ≡ count
+
+-- it is an input of this number of records
+pub record HasAllRecords (input : List ℕ) (count : ℕ) : Type 0 where
+  pub head : Head
+  pub packets : List Packet
+  pub is : IsInput None input head packets
+  pub long : length packets ≡ count
+
+pub records_most : (input : List ℕ) (count many : ℕ) → HasAllRecords input count → HasRecords input many → many ≤ count
+records_most input count many p q =
+    let most = input_has_all None input p.head q.head p.packets q.walk q.rest p.is q.begins in
+    omega (arith, most, p.long, q.long)
+
+pub all_records : (input : List ℕ) (count : ℕ) → HasAllRecords input count → HasRecords input count
+all_records input count r = record { head = r.head; walk = r.is.walk; rest = []; begins = r.is.begins; long = ap length r.is.packets_are ∙ r.long }
+
+pub has_records : (input : List ℕ) (head : Head) (packets : List Packet) → BeginsWithRecords (Some input) head packets
+    → HasRecords input (length packets)
+has_records input head packets b = by b.left b.took where
+  by : (left : Option (List ℕ)) → Took None (Some input) left head b.walk → HasRecords input (length packets)
+  by None took = absurd took
+  by (Some rest) took = record { head = head; walk = b.walk; rest = rest; begins = took; long = ap length b.packets_are }
+
+-- the output begins with this number of frames
+pub record HasFrames (output : List ℕ) (count : ℕ) : Type 0 where
+  pub head : Head
+  pub frames : List Packet
+  pub rest : List ℕ
+  pub accepted : head_of output ≡ Ok head
+  pub reads : ReadsTo head.order (drop 24 output) frames rest
+  pub long : length frames ≡ count
+
+-- it is a capture of this number of frames
+pub record HasAllFrames (output : List ℕ) (count : ℕ) : Type 0 where
+  pub head : Head
+  pub frames : List Packet
+  pub is : IsCapture output head frames
+  pub long : length frames ≡ count
+
+frames_most_by : (output : List ℕ) (head : Head) (frames : List Packet) (rest : List ℕ) (many : ℕ) → head_of output ≡ Ok head
+    → ReadsTo head.order (drop 24 output) frames rest → HasNoRecord head.order (length frames) rest → HasFrames output many → many ≤ length frames
+frames_most_by output head frames rest many is reads last q =
+    let two = q.accepted in
+    let heads : head ≡ q.head = cc in
+    let others : ReadsTo head.order (drop 24 output) q.frames q.rest =
+    subst (λ (h : Head). ReadsTo h.order (drop 24 output) q.frames q.rest) (sym heads) q.reads in
+    elim (cases_lt (length frames) (length q.frames)) [
+      | inl less ↦ absurd (goes_on head.order (drop 24 output) frames q.frames rest q.rest reads others less last)
+      | inr more ↦ omega (arith, more, q.long)
+    ]
+
+pub frames_most : (output : List ℕ) (count many : ℕ) → HasAllFrames output count → HasFrames output many → many ≤ count
+frames_most output count many p q =
+    let most = frames_most_by output p.head p.frames [] many p.is.accepted p.is.whole (none_at_end p.head.order (length p.frames)) q in
+    omega (arith, most, p.long)
+
+pub all_frames : (output : List ℕ) (count : ℕ) → HasAllFrames output count → HasFrames output count
+all_frames output count r = record { head = r.head; frames = r.frames; rest = []; accepted = r.is.accepted; reads = r.is.whole; long = r.long }
+
+pub has_frames : (output : List ℕ) (head : Head) (frames : List Packet) → BeginsWithFrames (Some output) head frames
+    → HasFrames output (length frames)
+has_frames output head frames b = by b.left b.took where
+  by : (left : Option (List ℕ)) → TookFrames (Some output) left head frames → HasFrames output (length frames)
+  by None took = absurd took
+  by (Some rest) took = record { head = head; frames = frames; rest = rest; accepted = took.0; reads = took.1; long = refl }
+
+-- The oldest of all.
 
 -- these are the oldest of all
 pub record AreOldest (all these : List Packet) : Type 0 where

@@ -1,17 +1,17 @@
 -- The items of a finished run with the same lines, records and frames as others: the record, the
 -- frames and the first engine's entry of the next line.
-use Rattle.std.proofs.Common.{◌≡◌, ◌⊎◌, ℕ, ◌+◌, Bool, true, false, List, [], ◌∷◌, ◌++◌, length, Option, Some, None, refl, sym, ap, subst, ◌∙◌, inl, inr, arith, length-append, append_assoc, is_some, if◌then◌else◌}
-use Rattle.std.proofs.lemmas.List.{append_cancel_left}
+use Rattle.std.proofs.Common.{◌≡◌, ◌⊎◌, ℕ, ◌+◌, Bool, true, false, List, [], ◌∷◌, ◌++◌, length, Option, Some, None, refl, sym, ap, ◌∙◌, inl, inr, arith, length-append, append_assoc, if◌then◌else◌}
 use Rattle.pcap_file.specs.declared.head.Head.{Head}
 use Rattle.pcap_file.specs.Records.{Packet}
 use Rattle.capture_input.specs.Inputs.{IsInput}
 use Rattle.rule_book.specs.Entries.{PlainEntry}
 use Rattle.run_view.specs.declared.form.Form.{Form}
-use Rattle.run_view.specs.Items.{AreItems, IsFirstLine, IsOfNewest, IsSecondLine, Item, Line, by_first, firsts, frames_of, is_second, line_of, lines_of, owed_of, packets_in, packets_of, waits}
+use Rattle.run_view.specs.Items.{AreItems, IsFirstLine, IsOfNewest, IsSecondLine, Item, Line, by_first, firsts, frames_of, is_second, line_of, lines_of, owed_of, packets_in, packets_of}
+use Rattle.run_view.specs.working.LinePositions.{waits}
 use Rattle.run_view.proofs.Numbered.{alone_is, newest_is}
-use Rattle.run_view.specs.Steps.{PlainOriginal}
-use Rattle.run_view.proofs.Oldest.{AreOldest, oldest_records}
-use Rattle.run_view.proofs.ReportNext.{BeginsWithRecords, frames_by}
+use Rattle.run_view.specs.working.RecordReading.{PlainOriginal}
+use Rattle.run_view.proofs.Oldest.{AreOldest, oldest_records, BeginsWithRecords}
+use Rattle.run_view.proofs.Fronts.{frames_by}
 
 -- ---- lists
 

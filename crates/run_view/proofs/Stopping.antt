@@ -1,15 +1,37 @@
--- What a stop says, from what another function's stop says.
-use Rattle.std.proofs.Common.{◌≡◌, ◌⊎◌, ◌≤◌, ℕ, ◌==◌, if◌then◌else◌, ◌||◌, Bool, true, false, List, Some, inl, inr, refl, sym, ap, subst, ◌∙◌, arith}
-use Rattle.edge_io.specs.Faults.{Rose}
+-- What a call returned, and what a stop says, by what another function returned or said.
+use Rattle.std.proofs.Common.{Result, Ok, Err, IfErr, IfOk, OnOk, ◌≡◌, ◌⊎◌, ◌≤◌, ℕ, ◌==◌, if◌then◌else◌, ◌||◌, Bool, true, false, List, inl, inr, refl, sym, ap, subst, ◌∙◌, arith}
+use Rattle.edge_io.specs.FaultCounts.{Rose}
 use Rattle.capture_input.specs.declared.fault.InputFault.{InputFault}
 use Rattle.capture_input.specs.declared.fault.InputFault.TheVariants as faults
 use Rattle.run_view.specs.declared.form.Form.{Form}
 use Rattle.run_view.specs.declared.stop.Stop.{Stop}
 use Rattle.run_view.specs.declared.stop.Stop.TheVariants as stops
-use Rattle.run_view.specs.Runs.{AreNoRest, FaultCounts, Moment, SourceRose, Sources, faults_of, sources_at}
-use Rattle.run_view.specs.Stops.{FilesStop, Meaning, RestStop, Says, fault_status, status_of}
-use Rattle.run_view.specs.Viewed.{Cause, IsStatusOf, IsToItsEnd, Stopped, Tells}
-use Rattle.run_view.specs.Words.{asked_in}
+use Rattle.run_view.specs.working.RestOfRun.{AreNoRest}
+use Rattle.run_view.specs.RunFiles.{FaultCounts, Moment, SourceRose, Sources, faults_of, sources_at}
+use Rattle.run_view.specs.working.StopCauses.{FilesStop, RestStop}
+use Rattle.run_view.specs.StopMeanings.{Meaning, Says, fault_status, status_of}
+use Rattle.run_view.specs.StatusMeanings.{Cause, IsStatusOf, IsToItsEnd, Stopped}
+use Rattle.run_view.specs.working.StopLines.{Tells}
+
+-- A fact of what a call returned, from another.
+
+pub on_ok : {T E : Type 0} {P Q : Type 0} (r : Result T E) → OnOk r P → (P → Q) → OnOk r Q
+on_ok (Ok x) p f = f p
+on_ok (Err e) p f = tt
+
+pub if_ok : {T E : Type 0} {P Q : T → Type 0} (r : Result T E) → IfOk r P → ((t : T) → P t → Q t) → IfOk r Q
+if_ok (Ok x) p f = f x p
+if_ok (Err e) p f = tt
+
+pub both_ok : {T E : Type 0} (P : Type 0) (Q : T → Type 0) (r : Result T E) → OnOk r P → IfOk r Q → IfOk r (λ t. P × Q t)
+both_ok P Q (Ok x) p q = (p, q)
+both_ok P Q (Err e) p q = tt
+
+pub if_err : {T E : Type 0} {P Q : E → Type 0} (r : Result T E) → IfErr r P → ((e : E) → P e → Q e) → IfErr r Q
+if_err (Ok x) p f = tt
+if_err (Err e) p f = f e p
+
+-- What a stop says.
 
 pub rose_within : (a b c d : ℕ) → a ≤ b → c ≤ d → Rose b c → Rose a d
 rose_within a b c d ab cd rose = omega arith

@@ -1,6 +1,6 @@
 -- What the three files of a finished run have for each line of its report (this project's profile).
 -- Lists have the newest at the head.
-use Rattle.std.specs.Prelude.{◌≡◌, ◌⊎◌, ℕ, zero, suc, ◌+◌, ◌*◌, ◌==◌, ◌&&◌, not, nat_lt, Bool, true, false, List, [], ◌∷◌, ◌++◌, length, Option, Some, None, is_some, if◌then◌else◌}
+use Rattle.std.specs.Prelude.{◌≡◌, ◌⊎◌, ℕ, ◌+◌, ◌*◌, ◌==◌, ◌&&◌, not, nat_lt, Bool, true, false, List, [], ◌∷◌, ◌++◌, length, Option, Some, None, is_some, if◌then◌else◌}
 use Rattle.std.specs.Str.{bytes_eq}
 use Rattle.wire_base.specs.Frames.{ethertype}
 use Rattle.wire_base.specs.declared.address.Link.{Link}
@@ -8,7 +8,7 @@ use Rattle.wire_base.specs.declared.address.Link.TheVariants.{Ethernet, Raw}
 use Rattle.pcap_file.specs.declared.head.Head.{Head}
 use Rattle.pcap_file.specs.Records.{Packet}
 use Rattle.rule_book.specs.Entries.{PlainEntry}
-use Rattle.rule_book.specs.Reports.{IsEntryOf}
+use Rattle.rule_book.specs.ReportReading.{IsEntryOf}
 use Rattle.rule_book.specs.Text.{entry_text, last_text}
 use Rattle.rule_book.specs.declared.last.Last.TheVariants.{End}
 use Rattle.frame_view.specs.Changes.{PlainChange, changes_of, made_of}
@@ -16,9 +16,8 @@ use Rattle.frame_view.specs.Flows.{flow_in, length_in}
 use Rattle.frame_view.specs.declared.flow.Flow.{Flow}
 use Rattle.run_view.specs.declared.form.Form.{Form}
 use Rattle.run_view.specs.declared.judged.Kinds.{Kinds}
-use Rattle.run_view.specs.declared.turn.Turn.{Turn}
 use Rattle.run_view.specs.Forms.{answers, is_both, own_frames, version_of}
-use Rattle.run_view.specs.Judged.{is_pass, kinds_of, made_at}
+use Rattle.run_view.specs.LineJudgments.{is_pass, kinds_of, made_at}
 
 -- A line of the report: the record of the input that it is of, its entry, and the frames of the
 -- output that it counts. Also the entry of the record by the first engine where the line is one of
@@ -90,20 +89,6 @@ lines_of (item ∷ older) = line_of item ∷ lines_of older
 abbrev pub lines_text : List Line → List ℕ
 lines_text [] = []
 lines_text (line ∷ older) = lines_text older ++ text_by line.second line.entry
-
--- lines of the second engine are to come
-abbrev pub waits : (owed : ℕ) → Bool
-waits zero = false
-waits (suc n) = true
-
--- the position of a line: the numbers of lines of the second engine that are to come before it, and
--- of lines of both engines and of frames that precede it
-abbrev pub turn_at : (owed firsts seconds frames : ℕ) → Turn
-turn_at owed firsts seconds frames = record { second = waits owed; done = if waits owed then seconds else firsts; frames = frames }
-
--- the position of the next line after these
-abbrev pub turn_of : List Item → Turn
-turn_of items = turn_at (owed_of items) (length (firsts items)) (length (seconds items)) (length (frames_of items))
 
 -- the line is of the same record as the newest of these
 abbrev pub IsOfNewest : List Item → Item → Type 0

@@ -1,8 +1,8 @@
 //! Which records are chosen.
 ghost use Rattle.std.specs.Prelude.{◌≡◌, ◌<◌};
 ghost use Rattle.rule_book.specs.Entries.{plain};
-ghost use Rattle.run_view.specs.Chosen as spec;
-ghost use Rattle.run_view.specs.Judged.{is_among as is_among_these};
+ghost use Rattle.run_view.specs.ChosenRecords as spec;
+ghost use Rattle.run_view.specs.LineJudgments.{is_among as is_among_these};
 ghost use Rattle.run_view.specs.Items.{flow_at as flow_there};
 ghost use Rattle.wire_base.specs.Prefixes as prefixes;
 

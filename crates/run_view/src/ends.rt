@@ -1,14 +1,14 @@
 //! The ends of the three files and of the output.
 ghost use Rattle.std.specs.Prelude.{◌≡◌, List, ℕ, IfErr, OnOk};
 ghost use Rattle.std.specs.declared.option.Option.{Option};
-ghost use Rattle.edge_io.specs.Faults.{RisesOnlyAtErr};
+ghost use Rattle.edge_io.specs.working.FaultCounts.{RisesOnlyAtErr};
 ghost use Rattle.pcap_file.specs.declared.head.Head.{Head};
-ghost use Rattle.run_view.specs.ReadAhead.{left_in};
-ghost use Rattle.run_view.specs.Events.{Event};
-ghost use Rattle.run_view.specs.Contents.{AreOver};
-ghost use Rattle.run_view.specs.Progress.{EndStop, HasEnded};
-ghost use Rattle.run_view.specs.Runs.{counts_of, sources_of};
-ghost use Rattle.run_view.specs.ViewerAt.{Closes, Ends, MayTake, ends_of};
+ghost use Rattle.run_view.specs.working.LinesAhead.{left_in};
+ghost use Rattle.run_view.specs.ShownEvents.{Event};
+ghost use Rattle.run_view.specs.working.SourceContents.{AreOver};
+ghost use Rattle.run_view.specs.working.LineProgress.{EndStop, HasEnded};
+ghost use Rattle.run_view.specs.RunFiles.{counts_of, sources_of};
+ghost use Rattle.run_view.specs.working.ViewerProgress.{Closes, Ends, MayTake, ends_of};
 
 use crate::Stop;
 use crate::sources::{next_frame, next_record};

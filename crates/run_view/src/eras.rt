@@ -73,17 +73,10 @@ impl EraRow {
 // Adds each rule that is not among them.
 fn add_rules(rules: &mut Vec<Rule>, more: &[Rule]) -> Result<(), NoMemory> {
     for rule in more {
-        add_rule(rules, *rule)?;
+        if !is_among(rules.as_slice(), rule.number()) {
+            rules.push(*rule)?;
+        }
     }
-    Ok(())
-}
-
-// Adds a rule, unless it is among them.
-fn add_rule(rules: &mut Vec<Rule>, rule: Rule) -> Result<(), NoMemory> {
-    if is_among(rules.as_slice(), rule.number()) {
-        return Ok(());
-    }
-    rules.push(rule)?;
     Ok(())
 }
 
@@ -97,11 +90,8 @@ pub(crate) fn add_record(
     let Some(era) = era else {
         return Ok(());
     };
-    name(alloc, eras, era)?;
-    match eras.get_mut(&era) {
-        Some(row) => row.add(told),
-        None => Ok(()),
-    }
+    let row = eras.entry(era)?.or_insert_with(|| EraRow::new(alloc));
+    row.add(told)
 }
 
 /// Notes the packet that began an era, which came from outside or not.
@@ -115,11 +105,9 @@ pub(crate) fn begin(
     let Some(era) = era else {
         return Ok(());
     };
-    name(alloc, eras, era)?;
-    if let Some(row) = eras.get_mut(&era) {
-        row.flow = outside_first(outside, flow);
-        row.opened = Some(opened_by(outside, flow));
-    }
+    let row = eras.entry(era)?.or_insert_with(|| EraRow::new(alloc));
+    row.flow = outside_first(outside, flow);
+    row.opened = Some(opened_by(outside, flow));
     Ok(())
 }
 
@@ -135,13 +123,7 @@ pub(crate) fn from_outside(second: bool, side: Option<Side>) -> bool {
 
 // Returns a packet with the outside host as its source.
 fn outside_first(outside: bool, flow: Option<Flow>) -> Option<Flow> {
-    if outside {
-        return flow;
-    }
-    match flow {
-        Some(flow) => Some(turned(flow)),
-        None => None,
-    }
+    if outside { flow } else { flow.map(turned) }
 }
 
 // Returns a packet with source and destination exchanged.
@@ -149,18 +131,15 @@ fn turned(flow: Flow) -> Flow {
     Flow {
         src: flow.dst,
         dst: flow.src,
-        ports: turned_ports(flow.ports),
+        ports: flow.ports.map(turned_ports),
         ..flow
     }
 }
 
-fn turned_ports(ports: Option<Ports>) -> Option<Ports> {
-    match ports {
-        Some(ports) => Some(Ports {
-            src: ports.dst,
-            dst: ports.src,
-        }),
-        None => None,
+fn turned_ports(ports: Ports) -> Ports {
+    Ports {
+        src: ports.dst,
+        dst: ports.src,
     }
 }
 
@@ -177,13 +156,8 @@ fn opened_by(outside: bool, flow: Option<Flow>) -> Opened {
 
 // Returns whether a packet is a segment with SYN and without ACK.
 fn is_opening(flow: Option<Flow>) -> bool {
-    let Some(flow) = flow else {
-        return false;
-    };
-    match flow.tcp {
-        Some(marks) => marks.flags.syn() && !marks.flags.ack(),
-        None => false,
-    }
+    flow.and_then(|flow| flow.tcp)
+        .is_some_and(|marks| marks.flags.syn() && !marks.flags.ack())
 }
 
 /// Adds octets that were sent inwards in an era.
@@ -196,35 +170,16 @@ pub(crate) fn bring(
     let Some(era) = era else {
         return Ok(());
     };
-    name(alloc, eras, era)?;
-    if let Some(row) = eras.get_mut(&era) {
-        row.sent = row.sent.saturating_add(octets);
-    }
+    let row = eras.entry(era)?.or_insert_with(|| EraRow::new(alloc));
+    row.sent = row.sent.saturating_add(octets);
     Ok(())
 }
 
 /// Notes the eras that ended.
 pub(crate) fn end_all(alloc: Global, eras: &mut Eras, ended: &[Ended]) -> Result<(), NoMemory> {
     for one in ended {
-        end(alloc, eras, *one)?;
+        let row = eras.entry(one.era)?.or_insert_with(|| EraRow::new(alloc));
+        row.ended = Some(*one);
     }
-    Ok(())
-}
-
-// Notes that an era ended.
-fn end(alloc: Global, eras: &mut Eras, ended: Ended) -> Result<(), NoMemory> {
-    name(alloc, eras, ended.era)?;
-    if let Some(row) = eras.get_mut(&ended.era) {
-        row.ended = Some(ended);
-    }
-    Ok(())
-}
-
-// Adds an era of which nothing is known, unless it is in the table.
-fn name(alloc: Global, eras: &mut Eras, era: u32) -> Result<(), NoMemory> {
-    if eras.contains_key(&era) {
-        return Ok(());
-    }
-    eras.insert(era, EraRow::new(alloc))?;
     Ok(())
 }

@@ -1,8 +1,8 @@
 //! What is shown of a run, event by event.
 ghost use Rattle.std.specs.Prelude.{◌≡◌, [], ◌∷◌, List, ℕ, None, Some, map, OnErr, OnOk};
 ghost use Rattle.std.specs.declared.option.Option.{Option};
-ghost use Rattle.edge_io.specs.Faults.{HasCause};
-ghost use Rattle.run_view.specs.Events.{Event as PlainEvent, ShowCause, Shows, plain_event};
+ghost use Rattle.edge_io.specs.FaultCounts.{HasCause};
+ghost use Rattle.run_view.specs.ShownEvents.{Event as PlainEvent, ShowCause, Shows, plain_event};
 
 use edge_io::{Failed, Sink};
 use std::alloc::Global;
@@ -95,11 +95,11 @@ impl<K: Sink> Printer<K> {
 fn record_text(alloc: Global, format: Format, lines: &[ShownLine]) -> Option<String> {
     let mut text = String::new(alloc);
     for shown in lines {
-        let Ok(line) = record_line(alloc, format, shown) else {
-            return None;
-        };
-        if text.push_str(line.as_str()).is_err() {
-            return None;
+        let line = record_line(alloc, format, shown).ok()?;
+        if text.is_empty() {
+            text = line;
+        } else {
+            text.push_str(line.as_str()).ok()?;
         }
     }
     Some(text)

@@ -30,11 +30,7 @@ impl Evidence {
     /// Returns that no record was chosen.
     pub(crate) fn new(alloc: Global) -> Evidence {
         Evidence {
-            counts: EvidenceCounts {
-                contradictions: 0,
-                differs: 0,
-                noise: 0,
-            },
+            counts: EvidenceCounts::default(),
             clashes: false,
             is_stray: true,
             firsts: Firsts::new(alloc),

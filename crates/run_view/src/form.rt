@@ -1,10 +1,12 @@
 //! The form of a report.
 ghost use Rattle.std.specs.Prelude.{◌≡◌, IfErr, IfOk, IfSome};
 ghost use Rattle.std.specs.Io.KnownBytes.{Consumes};
-ghost use Rattle.edge_io.specs.Faults.{RisesOnlyAtErr, Rose};
-ghost use Rattle.run_view.specs.ReadAhead.{left_in};
+ghost use Rattle.edge_io.specs.working.FaultCounts.{RisesOnlyAtErr};
+ghost use Rattle.edge_io.specs.FaultCounts.{Rose};
+ghost use Rattle.run_view.specs.working.LinesAhead.{left_in};
 ghost use Rattle.run_view.specs.Forms as spec;
-ghost use Rattle.run_view.specs.Stops.{IsNoFirst, Says};
+ghost use Rattle.run_view.specs.working.StopCauses.{IsNoFirst};
+ghost use Rattle.run_view.specs.StopMeanings.{Says};
 
 use crate::Stop;
 use crate::line::Lines;

@@ -1,15 +1,15 @@
 //! A record of the input with the frames of the output that were written for it.
 ghost use Rattle.std.specs.Prelude.{◌≡◌, ◌+◌, ◌<◌, ◌^◌, ◌++◌, ◌∷◌, [], ℕ, List, length, true, IfErr, OnOk, if◌then◌else◌};
 ghost use Rattle.std.specs.declared.option.Option.{Option};
-ghost use Rattle.pcap_file.specs.Reads.{shown as packet_of};
+ghost use Rattle.pcap_file.specs.RecordReading.{shown as packet_of};
 ghost use Rattle.pcap_file.specs.Records.{Packet};
 ghost use Rattle.pcap_file.specs.declared.head.Head.{Head};
 ghost use Rattle.rule_book.specs.Entries.{plain};
 ghost use Rattle.run_view.specs.Items as spec;
-ghost use Rattle.run_view.specs.Items.{waits};
-ghost use Rattle.edge_io.specs.Faults.{RisesOnlyAtErr};
-ghost use Rattle.run_view.specs.Readers.{OutputAt};
-ghost use Rattle.run_view.specs.Steps.{FrameAdded, FrameStop, FramesRead, FramesStop, Holds, IsGathered, MayRead, RecordRead, RecordStop, plain_original};
+ghost use Rattle.run_view.specs.working.LinePositions.{waits};
+ghost use Rattle.edge_io.specs.working.FaultCounts.{RisesOnlyAtErr};
+ghost use Rattle.run_view.specs.working.ReaderPositions.{OutputAt};
+ghost use Rattle.run_view.specs.working.RecordReading.{FrameAdded, FrameStop, FramesRead, FramesStop, Holds, IsGathered, MayRead, RecordRead, RecordStop, plain_original};
 
 use crate::Stop;
 use crate::compare::{Original, add_changes_at, flow_at};

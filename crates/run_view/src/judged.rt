@@ -2,7 +2,8 @@
 ghost use Rattle.std.specs.Prelude.{◌≡◌, ◌==◌, ◌&&◌, ◌||◌, None};
 ghost use Rattle.rule_book.specs.Entries.{plain};
 ghost use Rattle.run_view.specs.Items.{is_passed};
-ghost use Rattle.run_view.specs.Judged as spec;
+ghost use Rattle.run_view.specs.LineJudgments as spec;
+ghost use Rattle.run_view.specs.working.FirstJudgment as working;
 
 use crate::chosen::is_among;
 use frame_view::Made;
@@ -39,7 +40,7 @@ pub(crate) struct Kinds {
 
 /// Returns what the first engine said of a record.
 pub(crate) fn judged_by(entry: &Entry) -> Judged
-    ensures { result ≡ spec.judged_by (plain entry.now) }
+    ensures { result ≡ working.judged_by (plain entry.now) }
 {
     let passed = is_pass(entry.verdict);
     let dropped = is_drop(entry.verdict);

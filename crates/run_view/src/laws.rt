@@ -1,5 +1,5 @@
 //! Laws over definitions.
-ghost use Rattle.run_view.specs.Laws.{ConditionsChoose, ItemsAreOne, OthersShowNoRecord, RunsAreViewed};
+ghost use Rattle.run_view.specs.ViewLaws.{ConditionsChoose, ItemsAreOne, OthersShowNoRecord, RunsAreViewed};
 
 /// States that a view stops only if memory could not be allocated, if its words are accepted and
 /// nothing fails. The three files are an input, an output of its link and a report of the same

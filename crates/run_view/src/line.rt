@@ -2,9 +2,9 @@
 ghost use Rattle.std.specs.Prelude.{◌≡◌, ◌≤◌, ◌-◌, ℕ, List, length, take, IfOk, OnErr, OnOk};
 ghost use Rattle.std.specs.Io.KnownBytes.{Keeps};
 ghost use Rattle.std.specs.declared.option.Option.{Option};
-ghost use Rattle.edge_io.specs.Faults.{HasCause};
-ghost use Rattle.edge_io.specs.Octets.{TakesFewer};
-ghost use Rattle.run_view.specs.Lines.{front_line};
+ghost use Rattle.edge_io.specs.FaultCounts.{HasCause};
+ghost use Rattle.edge_io.specs.KnownOctets.{TakesFewer};
+ghost use Rattle.run_view.specs.working.FrontLine.{front_line};
 
 use edge_io::{Failed, NoMemory, Source, read_full};
 use std::alloc::Global;
@@ -30,7 +30,7 @@ pub(crate) struct Lines {
 }
 
 impl Lines {
-    ghost use Rattle.run_view.specs.ReadAhead.{GoesOn, HasEnough, TookLine, ahead_in, left_in, line_in};
+    ghost use Rattle.run_view.specs.working.LinesAhead.{GoesOn, HasEnough, TookLine, ahead_in, left_in, line_in};
 
     /// Creates a buffer without octets read ahead.
     pub(crate) fn new(alloc: Global) -> Result<Lines, NoMemory>

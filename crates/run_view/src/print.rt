@@ -1,8 +1,10 @@
 //! What is printed of a run besides its events: headings, a summary, eras, notes and stops.
 ghost use Rattle.std.specs.Prelude.{◌≡◌, ◌≤◌, false, IfErr, IfOk};
-ghost use Rattle.edge_io.specs.Faults.{RisesOnlyAtErr, Rose};
-ghost use Rattle.run_view.specs.Stops.{OutStop};
-ghost use Rattle.run_view.specs.Viewed as viewed;
+ghost use Rattle.edge_io.specs.working.FaultCounts.{RisesOnlyAtErr};
+ghost use Rattle.edge_io.specs.FaultCounts.{Rose};
+ghost use Rattle.run_view.specs.working.StopCauses.{OutStop};
+ghost use Rattle.run_view.specs.StatusMeanings as viewed;
+ghost use Rattle.run_view.specs.working.StopLines as viewed_working;
 
 use crate::Stop;
 use crate::eras::{EraRow, Eras};
@@ -10,13 +12,9 @@ use crate::events::Events;
 use crate::tally::{Tally, era_counts};
 use crate::words::{Asked, Print};
 use edge_io::NoMemory;
-use rule_book::{Ended, Reason};
 use run_notes::has_warning;
 use std::alloc::Global;
-use view_text::{
-    EraView, Format, Sides, Summary, era_heading, era_line, notes_text, record_heading,
-    summary_line,
-};
+use view_text::{EraView, Format, Summary, era_line, notes_text, record_heading, summary_line};
 
 /// Returns the format in which records and eras are printed.
 pub(crate) fn format_of(print: Print) -> Format {
@@ -88,7 +86,7 @@ pub(crate) fn summary_text(
     let summary = Summary {
         records: size.records,
         first: tally.sides,
-        second: second_sides(size.both, tally.second_sides),
+        second: size.both.then_some(tally.second_sides),
         frames: size.frames,
         unfinished: tally.notes.unfinished(),
         types: types.as_slice(),
@@ -109,11 +107,6 @@ pub(crate) fn text_of_notes(
 ) -> Result<String, NoMemory> {
     let list = tally.notes.list(alloc)?;
     notes_text(alloc, format, list.as_slice())
-}
-
-/// Returns the heading of a table of eras.
-pub(crate) fn heading_of_eras(alloc: Global) -> Result<String, NoMemory> {
-    era_heading(alloc)
 }
 
 /// Returns the status of a view to its end, in which this number of records was chosen. It is 11 if
@@ -148,11 +141,6 @@ fn status_of(warning: bool) -> u8
     ensures { viewed.IsStatusOf false 0 result }
 {
     if warning { 10 } else { 0 }
-}
-
-// Returns the lines of the second engine by side, where there is one.
-fn second_sides(both: bool, sides: Sides) -> Option<Sides> {
-    if both { Some(sides) } else { None }
 }
 
 /// Prints the lines of the eras of an engine.
@@ -193,33 +181,17 @@ fn line_of_era(
         last: row.last,
         records: row.records,
         sent: row.sent,
-        octets: octets_of(row.ended),
-        end: reason_of(row.ended),
+        octets: row.ended.and_then(|ended| ended.octets),
+        end: row.ended.map(|ended| ended.reason),
         rules: row.rules.as_slice(),
     };
     era_line(alloc, format, &view)
 }
 
-// Returns the report's number of octets of an era that ended in this way.
-fn octets_of(ended: Option<Ended>) -> Option<u64> {
-    match ended {
-        Some(ended) => ended.octets,
-        None => None,
-    }
-}
-
-// Returns the reason of an end.
-fn reason_of(ended: Option<Ended>) -> Option<Reason> {
-    match ended {
-        Some(ended) => Some(ended.reason),
-        None => None,
-    }
-}
-
 /// Prints the line of a stop, as JSON if that is asked for, and returns its status: 7 if the output
 /// failed. If memory for the line cannot be allocated, prints `stop memory` and returns 8.
 pub(crate) fn tell<E: Events>(alloc: Global, json: bool, stop: Stop, out: &mut E) -> u8
-    ensures told { viewed.Tells stop (E.fault_count out.old) (E.fault_count out.new) result }
+    ensures told { viewed_working.Tells stop (E.fault_count out.old) (E.fault_count out.new) result }
     ensures later { E.fault_count out.old ≤ E.fault_count out.new }
 {
     match stop.line(alloc, stop_format(json)) {

@@ -1,12 +1,12 @@
 //! The lines of a record, which are shown together once the last of them was read.
 ghost use Rattle.std.specs.Prelude.{◌≡◌, [], ◌∷◌, ◌++◌, None, true, false, map, IfErr, OnOk};
-ghost use Rattle.edge_io.specs.Faults.{RisesOnlyAtErr};
+ghost use Rattle.edge_io.specs.working.FaultCounts.{RisesOnlyAtErr};
 ghost use Rattle.rule_book.specs.Entries.{plain};
-ghost use Rattle.view_text.specs.Lines.{plain_line};
-ghost use Rattle.run_view.specs.Chosen as spec;
-ghost use Rattle.run_view.specs.Events.{Shows, plain_event};
-ghost use Rattle.run_view.specs.ShownLines.{NotesLine, due_event, line_of_shown, lines_with, may_be_chosen, met_shown, plain_shown};
-ghost use Rattle.run_view.specs.Stops.{OutStop};
+ghost use Rattle.view_text.specs.PlainLines.{plain_line};
+ghost use Rattle.run_view.specs.ChosenRecords as spec;
+ghost use Rattle.run_view.specs.ShownEvents.{Shows, plain_event};
+ghost use Rattle.run_view.specs.working.ShownLines.{NotesLine, due_event, line_of_shown, lines_with, may_be_chosen, met_shown, plain_shown};
+ghost use Rattle.run_view.specs.working.StopCauses.{OutStop};
 
 use crate::Stop;
 use crate::chosen::{Meets, chooses_records, either, meets_all, meets_record, met_by, nothing_met};
@@ -200,6 +200,8 @@ fn add_line(second: bool, line: ShownLine, lines: &mut Vec<ShownLine>) -> Result
     if !second {
         lines.clear();
     }
+    // A line is large, and most records have one.
+    lines.reserve_exact(1)?;
     lines.push(line)?;
     Ok(())
 }

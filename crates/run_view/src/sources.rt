@@ -1,12 +1,12 @@
 //! The records of the input and the frames of the output, read one by one.
 ghost use Rattle.std.specs.Prelude.{◌≡◌, ◌≤◌, ℕ, true, List, [], length, IfErr, IfOk, IfSome};
 ghost use Rattle.std.specs.declared.option.Option.{Option};
-ghost use Rattle.edge_io.specs.Faults.{RisesOnlyAtErr};
+ghost use Rattle.edge_io.specs.working.FaultCounts.{RisesOnlyAtErr};
 ghost use Rattle.pcap_file.specs.Records.{Packet};
 ghost use Rattle.pcap_file.specs.declared.head.Head.{Head};
-ghost use Rattle.capture_input.specs.Reading.{is_open_in};
-ghost use Rattle.run_view.specs.Stops as spec;
-ghost use Rattle.run_view.specs.Readers.{InputAt, InputOpened, InputReads, InputStop, IsBehind, OutputAt, OutputHeadStop, OutputReads, OutputStop};
+ghost use Rattle.capture_input.specs.ReaderState.{is_open_in};
+ghost use Rattle.run_view.specs.working.StopCauses as spec;
+ghost use Rattle.run_view.specs.working.ReaderPositions.{InputAt, InputOpened, InputReads, InputStop, IsBehind, OutputAt, OutputHeadStop, OutputReads, OutputStop};
 ghost use Rattle.wire_base.specs.declared.limits.TheConstants.{MAX_CAPTURED};
 
 use crate::Stop;

@@ -1,6 +1,6 @@
 //! Why a run is not viewed to its end, and the line that reports it.
 ghost use Rattle.std.specs.Prelude.{◌≡◌};
-ghost use Rattle.run_view.specs.Stops as spec;
+ghost use Rattle.run_view.specs.StopMeanings as spec;
 
 use capture_input::InputFault;
 use edge_io::NoMemory;
@@ -83,7 +83,7 @@ fn fault_status(fault: InputFault) -> u8
 }
 
 impl Stop {
-    ghost use Rattle.run_view.specs.Stops as spec;
+    ghost use Rattle.run_view.specs.StopMeanings as spec;
 
     /// Returns the status that goes with the line.
     pub fn status(self) -> u8

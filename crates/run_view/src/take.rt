@@ -3,16 +3,17 @@ ghost use Rattle.std.specs.Prelude.{◌≡◌, ◌⊎◌, ◌+◌, ◌<◌, ℕ,
 ghost use Rattle.std.specs.declared.option.Option.{Option};
 ghost use Rattle.pcap_file.specs.declared.head.Head.{Head};
 ghost use Rattle.rule_book.specs.Entries.{plain};
-ghost use Rattle.rule_book.specs.Reports.{IsEntryOf};
-ghost use Rattle.run_view.specs.ReadAhead.{left_in};
-ghost use Rattle.run_view.specs.Events.{Event};
+ghost use Rattle.rule_book.specs.ReportReading.{IsEntryOf};
+ghost use Rattle.run_view.specs.working.LinesAhead.{left_in};
+ghost use Rattle.run_view.specs.ShownEvents.{Event};
 ghost use Rattle.run_view.specs.Forms.{version_of as version_of_form};
 ghost use Rattle.run_view.specs.Items.{Item, line_by};
-ghost use Rattle.run_view.specs.Runs.{counts_of, sources_of};
-ghost use Rattle.run_view.specs.ViewerAt.{Ends, MayTake, ViewerAt, Taken, WentOn, WentOnBy, ends_of, lines_in, turn_in};
-ghost use Rattle.run_view.specs.Progress.{Going, IsSameRun, LineStop, StepsTo};
-ghost use Rattle.run_view.specs.Stops.{RestStop};
-ghost use Rattle.edge_io.specs.Faults.{RisesOnlyAtErr, Rose};
+ghost use Rattle.run_view.specs.RunFiles.{counts_of, sources_of};
+ghost use Rattle.run_view.specs.working.ViewerProgress.{Ends, MayTake, ViewerAt, Taken, WentOn, WentOnBy, ends_of, lines_in, turn_in};
+ghost use Rattle.run_view.specs.working.LineProgress.{Going, IsSameRun, LineStop, StepsTo};
+ghost use Rattle.run_view.specs.working.StopCauses.{RestStop};
+ghost use Rattle.edge_io.specs.working.FaultCounts.{RisesOnlyAtErr};
+ghost use Rattle.edge_io.specs.FaultCounts.{Rose};
 
 use crate::Stop;
 use crate::compare::Original;

@@ -9,7 +9,7 @@ use indexmap::IndexMap;
 use rule_book::{Ended, Entry, Reason, Rule, Verdict};
 use run_notes::{NotedLine, Notes};
 use std::alloc::Global;
-use view_text::{EraCounts, Opened, RuleCount, Sides, VerdictCounts};
+use view_text::{EraCounts, Opened, RuleCount, Sides};
 use wire_base::Side;
 
 /// What is known of a run so far.
@@ -33,8 +33,8 @@ impl Tally {
     /// Returns that nothing is known.
     pub(crate) fn new(alloc: Global) -> Tally {
         Tally {
-            sides: no_sides(),
-            second_sides: no_sides(),
+            sides: Sides::default(),
+            second_sides: Sides::default(),
             rules: Vec::new(alloc),
             eras: IndexMap::new(alloc),
             second_eras: IndexMap::new(alloc),
@@ -96,24 +96,8 @@ fn if_inward(side: Option<Side>, count: u64) -> u64 {
     }
 }
 
-fn no_counts() -> VerdictCounts {
-    VerdictCounts {
-        pass: 0,
-        fix: 0,
-        hold: 0,
-        drop: 0,
-    }
-}
-
-fn no_sides() -> Sides {
-    Sides {
-        inward: no_counts(),
-        outward: no_counts(),
-        neither: no_counts(),
-    }
-}
-
 // Notes what an entry by an engine says of eras.
+#[inline(always)]
 fn note_eras(
     alloc: Global,
     eras: &mut Eras,
@@ -136,23 +120,25 @@ fn note_eras(
     end_all(alloc, eras, entry.ended.as_slice())
 }
 
-// Adds one with this verdict on this side.
-fn add_to_side(sides: &mut Sides, side: Option<Side>, verdict: Verdict) {
-    match side {
-        Some(Side::Inward) => add_verdict(&mut sides.inward, verdict),
-        Some(Side::Outward) => add_verdict(&mut sides.outward, verdict),
-        None => add_verdict(&mut sides.neither, verdict),
-    }
+// Adds one to a count.
+fn add_one(count: &mut u64) {
+    *count = count.saturating_add(1);
 }
 
-// Adds one with this verdict.
-fn add_verdict(counts: &mut VerdictCounts, verdict: Verdict) {
-    match verdict {
-        Verdict::Pass => counts.pass = counts.pass.saturating_add(1),
-        Verdict::Fix => counts.fix = counts.fix.saturating_add(1),
-        Verdict::Hold => counts.hold = counts.hold.saturating_add(1),
-        Verdict::Drop => counts.drop = counts.drop.saturating_add(1),
-    }
+// Adds one with this verdict on this side.
+#[inline(always)]
+fn add_to_side(sides: &mut Sides, side: Option<Side>, verdict: Verdict) {
+    let counts = match side {
+        Some(Side::Inward) => &mut sides.inward,
+        Some(Side::Outward) => &mut sides.outward,
+        None => &mut sides.neither,
+    };
+    add_one(match verdict {
+        Verdict::Pass => &mut counts.pass,
+        Verdict::Fix => &mut counts.fix,
+        Verdict::Hold => &mut counts.hold,
+        Verdict::Drop => &mut counts.drop,
+    });
 }
 
 // Counts a line of this side that names these rules.
@@ -169,12 +155,9 @@ fn count_rules(
 
 // Counts a line of this side that names this rule.
 fn count_rule(counts: &mut Vec<RuleCount>, side: Option<Side>, rule: Rule) -> Result<(), NoMemory> {
-    let number = rule.number();
-    for place in 0..counts.len() {
-        let mut count = counts[place];
-        if count.rule.number() == number {
-            add_line(&mut count, side);
-            counts[place] = count;
+    for count in counts.iter_mut() {
+        if count.rule == rule {
+            add_line(count, side);
             return Ok(());
         }
     }
@@ -192,68 +175,47 @@ fn count_rule(counts: &mut Vec<RuleCount>, side: Option<Side>, rule: Rule) -> Re
 // Adds a line of this side to a count.
 fn add_line(count: &mut RuleCount, side: Option<Side>) {
     match side {
-        Some(Side::Inward) => count.inward = count.inward.saturating_add(1),
-        Some(Side::Outward) => count.outward = count.outward.saturating_add(1),
-        None => count.neither = count.neither.saturating_add(1),
+        Some(Side::Inward) => add_one(&mut count.inward),
+        Some(Side::Outward) => add_one(&mut count.outward),
+        None => add_one(&mut count.neither),
     }
 }
 
 /// Counts the eras of both engines by how they were opened and ended.
 pub(crate) fn era_counts(tally: &Tally) -> EraCounts {
-    let none = EraCounts {
-        all: 0,
-        live: 0,
-        reset: 0,
-        evicted: 0,
-        idle: 0,
-        reopened: 0,
-        opened_in: 0,
-        opened_out: 0,
-        opened_mid: 0,
-    };
-    let first = with_eras(&tally.eras, none);
-    with_eras(&tally.second_eras, first)
-}
-
-// Adds the eras of a table.
-fn with_eras(eras: &Eras, before: EraCounts) -> EraCounts {
-    let mut counts = before;
-    for place in 0..eras.len() {
-        let Some((_, row)) = eras.get_index(place) else {
-            unreachable!();
-        };
-        counts = with_era(row.opened, row.ended, counts);
-    }
+    let mut counts = EraCounts::default();
+    add_eras(&mut counts, &tally.eras);
+    add_eras(&mut counts, &tally.second_eras);
     counts
 }
 
-// Adds an era that was opened and ended in this way.
-fn with_era(opened: Option<Opened>, ended: Option<Ended>, before: EraCounts) -> EraCounts {
-    let mut counts = before;
-    counts.all = counts.all.saturating_add(1);
-    match ended {
-        None => counts.live = counts.live.saturating_add(1),
-        Some(ended) => add_end(&mut counts, ended.reason),
+// Counts the eras of a table.
+fn add_eras(counts: &mut EraCounts, eras: &Eras) {
+    for (_, row) in eras {
+        add_one(&mut counts.all);
+        add_end(counts, row.ended);
+        if let Some(opened) = row.opened {
+            add_opened(counts, opened);
+        }
     }
-    if let Some(opened) = opened {
-        add_opened(&mut counts, opened);
-    }
-    counts
 }
 
-fn add_end(counts: &mut EraCounts, reason: Reason) {
-    match reason {
-        Reason::Reset => counts.reset = counts.reset.saturating_add(1),
-        Reason::Evicted => counts.evicted = counts.evicted.saturating_add(1),
-        Reason::Idle => counts.idle = counts.idle.saturating_add(1),
-        Reason::Reopened => counts.reopened = counts.reopened.saturating_add(1),
-    }
+fn add_end(counts: &mut EraCounts, ended: Option<Ended>) {
+    add_one(match ended {
+        None => &mut counts.live,
+        Some(ended) => match ended.reason {
+            Reason::Reset => &mut counts.reset,
+            Reason::Evicted => &mut counts.evicted,
+            Reason::Idle => &mut counts.idle,
+            Reason::Reopened => &mut counts.reopened,
+        },
+    });
 }
 
 fn add_opened(counts: &mut EraCounts, opened: Opened) {
-    match opened {
-        Opened::In => counts.opened_in = counts.opened_in.saturating_add(1),
-        Opened::Out => counts.opened_out = counts.opened_out.saturating_add(1),
-        Opened::Mid => counts.opened_mid = counts.opened_mid.saturating_add(1),
-    }
+    add_one(match opened {
+        Opened::In => &mut counts.opened_in,
+        Opened::Out => &mut counts.opened_out,
+        Opened::Mid => &mut counts.opened_mid,
+    });
 }

@@ -1,7 +1,7 @@
 //! The content of a line of a report.
 ghost use Rattle.std.specs.Prelude.{◌≡◌, ◌↔◌, ◌^◌, ◌<◌, IsTrue};
 ghost use Rattle.rule_book.specs.declared.last.Last.TheVariants.{End};
-ghost use Rattle.run_view.specs.Turns.{IsLast, part_by};
+ghost use Rattle.run_view.specs.working.LineContents.{IsLast, part_by};
 
 use rule_book::{Last, read_last};
 

@@ -1,10 +1,10 @@
 //! The values of the options of a view.
 ghost use Rattle.std.specs.Prelude.{◌≡◌, ◌≤◌, ◌<◌, ◌==◌, codes, length, option_map, IfSome, if◌then◌else◌};
 ghost use Rattle.std.specs.List.{list_any, position_or_len};
-ghost use Rattle.norm_settings.specs.Options.{number_within as number_that_is_within};
+ghost use Rattle.norm_settings.specs.OptionTable.{number_within as number_that_is_within};
 ghost use Rattle.rule_book.specs.Rules.{rule_named as rule_of_name, rule_number};
-ghost use Rattle.run_view.specs.Chosen.{side_place, verdict_place};
-ghost use Rattle.run_view.specs.Words as spec;
+ghost use Rattle.run_view.specs.ChosenRecords.{side_place, verdict_place};
+ghost use Rattle.run_view.specs.ViewWords as spec;
 ghost use Rattle.wire_base.specs.Prefixes as prefixes;
 
 use crate::words::{Choice, EraAsked, Print, after_front};

@@ -1,17 +1,17 @@
 //! The view of a finished run.
 ghost use Rattle.std.specs.Prelude.{◌≡◌, ◌⊎◌, ◌<◌, ◌≤◌, [], map, string_bytes, true, false, IfErr, IfOk, None, OnOk};
-ghost use Rattle.edge_io.specs.Faults.{RisesOnlyAtErr};
-ghost use Rattle.capture_input.specs.Reading.{is_open_in};
+ghost use Rattle.edge_io.specs.working.FaultCounts.{RisesOnlyAtErr};
+ghost use Rattle.capture_input.specs.ReaderState.{is_open_in};
 ghost use Rattle.pcap_file.specs.declared.head.Head.{Head};
-ghost use Rattle.run_view.specs.ReadAhead.{left_in};
-ghost use Rattle.run_view.specs.Events.{Shows, count_shown, is_summed};
-ghost use Rattle.run_view.specs.Progress.{Whole};
-ghost use Rattle.run_view.specs.Runs.{counts_of, sources_of};
-ghost use Rattle.run_view.specs.ViewerAt.{Ends, IsFresh, MayTake, ViewerAt, ends_of};
-ghost use Rattle.run_view.specs.Readers.{IsBehind};
-ghost use Rattle.run_view.specs.Stops.{FilesStop, OutStop, RestStop};
-ghost use Rattle.run_view.specs.Viewed as viewed;
-ghost use Rattle.run_view.specs.Words.{asked_in as words_ask};
+ghost use Rattle.run_view.specs.working.LinesAhead.{left_in};
+ghost use Rattle.run_view.specs.ShownEvents.{Shows, count_shown, is_summed};
+ghost use Rattle.run_view.specs.working.LineProgress.{Whole};
+ghost use Rattle.run_view.specs.RunFiles.{counts_of, sources_of};
+ghost use Rattle.run_view.specs.working.ViewerProgress.{Ends, IsFresh, MayTake, ViewerAt, ends_of};
+ghost use Rattle.run_view.specs.working.ReaderPositions.{IsBehind};
+ghost use Rattle.run_view.specs.working.StopCauses.{FilesStop, OutStop, RestStop};
+ghost use Rattle.run_view.specs.StatusMeanings as viewed;
+ghost use Rattle.run_view.specs.ViewWords.{asked_in as words_ask};
 
 use crate::Stop;
 use crate::chosen::has_choice;
@@ -22,8 +22,8 @@ use crate::item::{Files, Frames, Held, ROOM};
 use crate::judged::Judged;
 use crate::line::Lines;
 use crate::print::{
-    Size, answer, flush, format_of, heading_of_eras, print_opening, print_table, summary_text,
-    tell, text_of_notes, write,
+    Size, answer, flush, format_of, print_opening, print_table, summary_text, tell, text_of_notes,
+    write,
 };
 use crate::show::{Printing, show};
 use crate::sources::{open_input, open_output};
@@ -34,7 +34,7 @@ use capture_input::Input;
 use edge_io::{NoMemory, Source};
 use pcap_file::Reader;
 use std::alloc::Global;
-use view_text::evidence_lines;
+use view_text::{era_heading, evidence_lines};
 
 /// The progress of a view.
 #[derive(Drop)]
@@ -312,7 +312,7 @@ fn print_eras<E: Events>(alloc: Global, viewer: &Viewer, out: &mut E) -> Result<
     ensures stops { IfErr result (OutStop (E.fault_count out.old) (E.fault_count out.new)) }
     ensures faults { RisesOnlyAtErr (E.fault_count out.old) (E.fault_count out.new) result }
 {
-    match write(heading_of_eras(alloc), out) {
+    match write(era_heading(alloc), out) {
         Ok(()) => print_tables(alloc, viewer, out),
         Err(stop) => Err(stop),
     }

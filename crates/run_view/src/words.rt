@@ -1,9 +1,10 @@
 //! The words of a view.
 ghost use Rattle.std.specs.Prelude.{◌≡◌, ◌≤◌, map, option_map, string_bytes};
-ghost use Rattle.norm_settings.specs.Line.{after_front as behind};
-ghost use Rattle.norm_settings.specs.Options.{is_name as is_name_of};
-ghost use Rattle.run_view.specs.Words as spec;
-ghost use Rattle.run_view.specs.WordsMet.{plain_word};
+ghost use Rattle.norm_settings.specs.RunWords.{after_front as behind};
+ghost use Rattle.norm_settings.specs.OptionTable.{is_name as is_name_of};
+ghost use Rattle.run_view.specs.ViewWords as spec;
+ghost use Rattle.run_view.specs.working.JsonWords as working;
+ghost use Rattle.run_view.specs.working.PlainWords.{plain_word};
 
 use crate::chosen::has_choice;
 use crate::values::{Names, era_named, host_named, listed, table_named};
@@ -118,7 +119,7 @@ impl Choice {
 
 /// Returns whether JSON is asked for, even by invalid arguments.
 pub(crate) fn asks_json(words: &[String]) -> bool
-    ensures { result ≡ spec.asks_json (map string_bytes words.now) }
+    ensures { result ≡ working.asks_json (map string_bytes words.now) }
 {
     for word in words {
         if is_json(word.as_bytes()) {

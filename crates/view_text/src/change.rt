@@ -2,9 +2,9 @@
 
 use crate::field::{close_list, open_list, put_parts, put_values, separator};
 use crate::flow::{ack_of, flags_of, proto_of, seq_of};
-use crate::json::{put_member, put_members, put_name};
+use crate::json::{put_first_members, put_members};
 use crate::put::{Put, between, put_number, put_text};
-use crate::value::{Part, Value, Word, dashed, hidden, number_if, of_text, shown};
+use crate::value::{Part, Value, Word, dashed, hidden, key, number_if, of_text, shown};
 use crate::word::made_word;
 use crate::{Format, ShownLine};
 use frame_view::{Change, Field, Flow, Made, PayloadChange, Replaced, Said};
@@ -51,14 +51,14 @@ fn some_octets(octets: &[u8]) -> Value<'_> {
 
 // Returns the number of a frame, which its lead has on a text line.
 fn frame_part(frame: u32) -> Part<'static> {
-    hidden("frame", Value::Number(u64::from(frame)))
+    hidden!("frame", Value::Number(u64::from(frame)))
 }
 
 // Returns that a frame that norm made itself is compared with no record.
 fn compared(kind: Made) -> Part<'static> {
     match kind {
-        Made::Probe => hidden("compared", Value::Mark(false)),
-        Made::Datagram => dashed("compared", ", compared with no record", Value::Mark(false)),
+        Made::Probe => hidden!("compared", Value::Mark(false)),
+        Made::Datagram => dashed!("compared", ", compared with no record", Value::Mark(false)),
     }
 }
 
@@ -66,11 +66,11 @@ fn compared(kind: Made) -> Part<'static> {
 fn field_parts<'a>(frame: u32, field: Field, from: &'a Said, to: &'a Said) -> [Part<'a>; 6] {
     [
         frame_part(frame),
-        shown("field", "", of_text(field.name())),
-        dashed("from", " ", said_value(field, from)),
-        dashed("to", " > ", said_value(field, to)),
-        hidden("from_number", said_number(field, from)),
-        hidden("to_number", said_number(field, to)),
+        shown!("field", "", of_text(field.name())),
+        dashed!("from", " ", said_value(field, from)),
+        dashed!("to", " > ", said_value(field, to)),
+        hidden!("from_number", said_number(field, from)),
+        hidden!("to_number", said_number(field, to)),
     ]
 }
 
@@ -78,10 +78,10 @@ fn field_parts<'a>(frame: u32, field: Field, from: &'a Said, to: &'a Said) -> [P
 fn payload_parts(frame: u32, change: &PayloadChange) -> [Part<'_>; 5] {
     [
         frame_part(frame),
-        shown("field", "", of_text("payload")),
-        shown("front", " front ", some_octets(change.front.as_slice())),
-        shown("end", " end ", some_octets(change.end.as_slice())),
-        shown("longer", " longer ", some_octets(change.longer.as_slice())),
+        shown!("field", "", of_text("payload")),
+        shown!("front", " front ", some_octets(change.front.as_slice())),
+        shown!("end", " end ", some_octets(change.end.as_slice())),
+        shown!("longer", " longer ", some_octets(change.longer.as_slice())),
     ]
 }
 
@@ -89,12 +89,12 @@ fn payload_parts(frame: u32, change: &PayloadChange) -> [Part<'_>; 5] {
 fn made_parts(frame: u32, kind: Made, flow: Option<Flow>, length: u64) -> [Part<'static>; 8] {
     [
         frame_part(frame),
-        shown("field", "", of_text(made_word(kind))),
-        shown("proto", " ", proto_of(flow)),
-        shown("flags", " ", flags_of(flow)),
-        shown("seq", " seq ", seq_of(flow)),
-        shown("ack", " ack ", ack_of(flow)),
-        shown("length", " len ", Value::Number(length)),
+        shown!("field", "", of_text(made_word(kind))),
+        shown!("proto", " ", proto_of(flow)),
+        shown!("flags", " ", flags_of(flow)),
+        shown!("seq", " seq ", seq_of(flow)),
+        shown!("ack", " ack ", ack_of(flow)),
+        shown!("length", " len ", Value::Number(length)),
         compared(kind),
     ]
 }
@@ -102,10 +102,10 @@ fn made_parts(frame: u32, kind: Made, flow: Option<Flow>, length: u64) -> [Part<
 // Returns octets from an offset on, those in their place, and the record that first sent these.
 fn run_parts<'a>(at: u64, from: &'a [u8], to: &'a [u8], first: Option<u32>) -> [Part<'a>; 4] {
     [
-        shown("at", " at ", Value::Number(at)),
-        shown("from_octets", " ", Value::Octets(from)),
-        shown("to_octets", " > ", Value::Octets(to)),
-        shown("first", " first ", number_if(first.map(u64::from))),
+        shown!("at", " at ", Value::Number(at)),
+        shown!("from_octets", " ", Value::Octets(from)),
+        shown!("to_octets", " > ", Value::Octets(to)),
+        shown!("first", " first ", number_if(first.map(u64::from))),
     ]
 }
 
@@ -133,7 +133,7 @@ fn put_payload(
     if format != Format::Json {
         return put_runs(text, format, runs, firsts);
     }
-    put_name(text, true, "replaced")?;
+    put_text(text, key!("replaced"))?;
     put_text(text, "[")?;
     put_runs(text, format, runs, firsts)?;
     put_text(text, "]")
@@ -142,7 +142,7 @@ fn put_payload(
 // Writes named values as the members of an object, or as text.
 fn put_inner(text: &mut String, format: Format, parts: &[Part<'_>]) -> Put {
     match format {
-        Format::Json => put_members(text, parts),
+        Format::Json => put_first_members(text, parts),
         Format::Text | Format::Table => put_parts(text, parts),
     }
 }
@@ -276,8 +276,7 @@ fn put_clash(text: &mut String, format: Format, count: usize, clash: &Clash) -> 
         }
         Format::Json => {
             put_text(text, "{\"frame\":null")?;
-            put_member(text, true, &hidden("field", of_text("fragment")))?;
-            put_text(text, ",")?;
+            put_members(text, &[hidden!("field", of_text("fragment"))])?;
             put_members(text, &clash_parts(clash))?;
             put_text(text, "}")
         }
@@ -289,7 +288,12 @@ fn put_clash(text: &mut String, format: Format, count: usize, clash: &Clash) -> 
 /// those held.
 pub(crate) fn put_changes(text: &mut String, format: Format, line: &ShownLine) -> Put {
     let count = line.changes.len();
-    open_list(text, format, "changes", count == 0 && line.clash.is_none())?;
+    open_list(
+        text,
+        format,
+        key!("changes"),
+        count == 0 && line.clash.is_none(),
+    )?;
     put_each(text, format, line)?;
     if let Some(clash) = &line.clash {
         put_clash(text, format, count, clash)?;

@@ -1,12 +1,13 @@
 //! Fields in each format.
 
-use crate::json::{put_member, put_name, put_object};
+use crate::json::{put_members, put_object};
 use crate::put::{Put, between, put_text};
-use crate::table::put_cell;
+use crate::table::{put_cell, put_cells};
 use crate::value::Part;
 use crate::{Format, text};
 use edge_io::NoMemory;
 use std::alloc::Global;
+use std::slice;
 
 // The room for a line at its beginning, in octets.
 const ROOM: usize = 1_024;
@@ -25,31 +26,20 @@ pub(crate) fn begun(
             put_text(&mut line, "{\"event\":\"")?;
             put_text(&mut line, event)?;
             put_text(&mut line, "\"")?;
-            put_member(&mut line, true, first)?;
+            put_members(&mut line, slice::from_ref(first))?;
         }
         Format::Table => put_cell(&mut line, first.value)?,
     }
     Ok(line)
 }
 
-// Writes a field after the first.
-fn put_field(text: &mut String, format: Format, part: &Part<'_>) -> Put {
-    match format {
-        Format::Text => text::put_part(text, part),
-        Format::Json => put_member(text, true, part),
-        Format::Table => {
-            put_text(text, "\t")?;
-            put_cell(text, part.value)
-        }
-    }
-}
-
 /// Writes fields after the first.
 pub(crate) fn put_fields(text: &mut String, format: Format, parts: &[Part<'_>]) -> Put {
-    for part in parts {
-        put_field(text, format, part)?;
+    match format {
+        Format::Text => put_parts(text, parts),
+        Format::Json => put_members(text, parts),
+        Format::Table => put_cells(text, parts),
     }
-    Ok(())
 }
 
 /// Writes named values as text.
@@ -78,10 +68,10 @@ pub(crate) trait Element {
 pub(crate) fn put_list<T: Element>(
     text: &mut String,
     format: Format,
-    name: &str,
+    key: &str,
     list: &[T],
 ) -> Put {
-    open_list(text, format, name, list.is_empty())?;
+    open_list(text, format, key, list.is_empty())?;
     put_elements(text, format, separator(format), list)?;
     close_list(text, format)
 }
@@ -104,7 +94,7 @@ pub(crate) fn put_elements<T: Element>(
 pub(crate) fn put_group(
     text: &mut String,
     format: Format,
-    name: &str,
+    key: &str,
     lead: &str,
     parts: &[Part<'_>],
 ) -> Put {
@@ -114,7 +104,7 @@ pub(crate) fn put_group(
             put_parts(text, parts)
         }
         Format::Json => {
-            put_name(text, true, name)?;
+            put_text(text, key)?;
             put_object(text, parts)
         }
         Format::Table => put_text(text, "\t-"),
@@ -122,11 +112,11 @@ pub(crate) fn put_group(
 }
 
 /// Writes what precedes the elements of a field, which has none or some.
-pub(crate) fn open_list(text: &mut String, format: Format, name: &str, empty: bool) -> Put {
+pub(crate) fn open_list(text: &mut String, format: Format, key: &str, empty: bool) -> Put {
     match format {
         Format::Text => Ok(()),
         Format::Json => {
-            put_name(text, true, name)?;
+            put_text(text, key)?;
             put_text(text, "[")
         }
         Format::Table if empty => put_text(text, "\t-"),

@@ -15,68 +15,46 @@ fn put_numbers(text: &mut String, before: u64, count: u8) -> Put {
     put_text(text, "]")
 }
 
-// Writes a value after the quote that ends its name, and a colon.
+// Writes a value.
 #[inline(always)]
 fn put_value(text: &mut String, value: Value<'_>) -> Put {
     match value {
-        Value::Absent => put_text(text, "\":null"),
-        Value::Number(number) => {
-            put_text(text, "\":")?;
-            put_number(text, number)
-        }
-        Value::Mark(true) => put_text(text, "\":true"),
-        Value::Mark(false) => put_text(text, "\":false"),
+        Value::Absent => put_text(text, "null"),
+        Value::Number(number) => put_number(text, number),
+        Value::Mark(true) => put_text(text, "true"),
+        Value::Mark(false) => put_text(text, "false"),
         Value::Word(word) => {
-            put_text(text, "\":\"")?;
+            put_text(text, "\"")?;
             put_word(text, word)?;
             put_text(text, "\"")
         }
-        Value::Octets(octets) | Value::Counted(octets) => {
-            put_text(text, "\":")?;
-            put_octets_json(text, octets)
-        }
-        Value::Frames { before, count } => {
-            put_text(text, "\":")?;
-            put_numbers(text, before, count)
-        }
+        Value::Octets(octets) | Value::Counted(octets) => put_octets_json(text, octets),
+        Value::Frames { before, count } => put_numbers(text, before, count),
     }
 }
 
-// Writes the quote before a name; after a comma if it is not the first.
-#[inline(always)]
-fn put_quote(text: &mut String, comma: bool) -> Put {
-    if comma {
-        return put_text(text, ",\"");
-    }
-    put_text(text, "\"")
-}
-
-/// Writes the name of a member, in quotes, and a colon; after a comma if it is not the first.
-pub(crate) fn put_name(text: &mut String, comma: bool, name: &str) -> Put {
-    put_quote(text, comma)?;
-    put_text(text, name)?;
-    put_text(text, "\":")
-}
-
-/// Writes a named value as a member; after a comma if it is not the first.
-#[inline(always)]
-pub(crate) fn put_member(text: &mut String, comma: bool, part: &Part<'_>) -> Put {
-    put_quote(text, comma)?;
-    put_text(text, part.name)?;
-    put_value(text, part.value)
-}
-
-/// Writes named values, with a comma between each two.
+/// Writes named values as members after others.
 pub(crate) fn put_members(text: &mut String, parts: &[Part<'_>]) -> Put {
-    for (at, part) in parts.iter().enumerate() {
-        put_member(text, at != 0, part)?;
+    for part in parts {
+        put_text(text, part.key)?;
+        put_value(text, part.value)?;
     }
     Ok(())
+}
+
+/// Writes named values as the first members of an object.
+pub(crate) fn put_first_members(text: &mut String, parts: &[Part<'_>]) -> Put {
+    let Some((first, rest)) = parts.split_first() else {
+        return Ok(());
+    };
+    put_text(text, first.key.strip_prefix(",").unwrap_or(first.key))?;
+    put_value(text, first.value)?;
+    put_members(text, rest)
 }
 
 /// Writes an object.
 pub(crate) fn put_object(text: &mut String, parts: &[Part<'_>]) -> Put {
     put_text(text, "{")?;
-    put_members(text, parts)?;
+    put_first_members(text, parts)?;
     put_text(text, "}")
 }

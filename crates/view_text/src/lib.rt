@@ -1,9 +1,9 @@
 //! What is said of a record, of an era and of a whole run: a list of named fields, as text, as JSON
 //! or as a row of a table.
 //!
-//! `ShownLine` is the value of a line; `specs/Lines.antt` has it over plain lists. The printers are
-//! proved safe, and no contract says what they write: that is tested. A time is the RFC 3339 text
-//! of the instant.
+//! `ShownLine` is the value of a line; `specs/PlainLines.antt` has it over plain lists. The
+//! printers are proved safe, and no contract says what they write: that is tested. A time is the
+//! RFC 3339 text of the instant.
 //!
 //! Choices: in JSON each key of an event has one type in all events, and each key of an object in
 //! an array one in all such objects. Of octets that were cut off or replaced a text line has the

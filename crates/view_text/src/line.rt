@@ -39,7 +39,7 @@ pub fn record_line(
     format: Format,
     shown_line: &ShownLine,
 ) -> Result<String, NoMemory> {
-    let first = shown("record", "", Value::Number(shown_line.number));
+    let first = shown!("record", "", Value::Number(shown_line.number));
     let mut line = begun(alloc, format, "record", &first)?;
     put_record(&mut line, format, shown_line)?;
     end_line(&mut line, format)?;
@@ -48,7 +48,7 @@ pub fn record_line(
 
 /// Returns the line of an era.
 pub fn era_line(alloc: Global, format: Format, view: &EraView<'_>) -> Result<String, NoMemory> {
-    let first = shown(
+    let first = shown!(
         "era",
         era_lead(view.second),
         Value::Number(u64::from(view.era)),
@@ -65,7 +65,7 @@ pub fn summary_line(
     format: Format,
     summary: &Summary<'_>,
 ) -> Result<String, NoMemory> {
-    let first = shown("records", "records ", Value::Number(summary.records));
+    let first = shown!("records", "records ", Value::Number(summary.records));
     let mut line = begun(alloc, format, "summary", &first)?;
     put_summary(&mut line, format, summary)?;
     end_line(&mut line, format)?;
@@ -74,7 +74,7 @@ pub fn summary_line(
 
 /// Returns the line of how many records were chosen.
 pub fn chosen_line(alloc: Global, format: Format, records: u64) -> Result<String, NoMemory> {
-    let first = shown("records", "chosen ", Value::Number(records));
+    let first = shown!("records", "chosen ", Value::Number(records));
     let mut line = begun(alloc, format, "chosen", &first)?;
     end_line(&mut line, format)?;
     Ok(line)
@@ -87,7 +87,7 @@ pub fn evidence_lines(
     format: Format,
     counts: &EvidenceCounts,
 ) -> Result<String, NoMemory> {
-    let first = shown(
+    let first = shown!(
         "contradictions",
         "contradictions ",
         Value::Number(counts.contradictions),
@@ -104,8 +104,8 @@ pub fn evidence_lines(
 // Returns the counts of the second and the third class of evidence.
 fn evidence_parts(counts: &EvidenceCounts) -> [Part<'static>; 2] {
     [
-        shown("differs", BEFORE_DIFFERS, Value::Number(counts.differs)),
-        shown("noise", BEFORE_NOISE, Value::Number(counts.noise)),
+        shown!("differs", BEFORE_DIFFERS, Value::Number(counts.differs)),
+        shown!("noise", BEFORE_NOISE, Value::Number(counts.noise)),
     ]
 }
 
@@ -121,7 +121,7 @@ pub fn notes_text(alloc: Global, format: Format, notes: &[Note]) -> Result<Strin
 
 // Returns the line of a note.
 fn note_line(alloc: Global, format: Format, note: Note) -> Result<String, NoMemory> {
-    let first = shown("note", "note ", of_text(note_name(note)));
+    let first = shown!("note", "note ", of_text(note_name(note)));
     let mut line = begun(alloc, format, "note", &first)?;
     put_note(&mut line, format, note)?;
     end_line(&mut line, format)?;
@@ -136,9 +136,9 @@ pub fn stop_line(
     status: u8,
     reason: &str,
 ) -> Result<String, NoMemory> {
-    let first = hidden("status", Value::Number(u64::from(status)));
+    let first = hidden!("status", Value::Number(u64::from(status)));
     let mut line = begun(alloc, format, "stop", &first)?;
-    put_fields(&mut line, format, &[shown("reason", "", of_text(reason))])?;
+    put_fields(&mut line, format, &[shown!("reason", "", of_text(reason))])?;
     end_line(&mut line, format)?;
     Ok(line)
 }

@@ -4,7 +4,7 @@ use crate::Format;
 use crate::field::{close_list, open_list, put_fields};
 use crate::json::put_object;
 use crate::put::{Put, between, put_number, put_text};
-use crate::value::{Part, Value, hidden, of_text, shown};
+use crate::value::{Part, Value, hidden, key, of_text, shown};
 use rule_book::Rule;
 use run_notes::{BySide, Full, Note, RuleDrops, Tagged};
 
@@ -31,44 +31,44 @@ pub(crate) fn note_name(note: Note) -> &'static str {
 // Returns a count by side.
 fn side_parts(count: BySide) -> [Part<'static>; 3] {
     [
-        shown("in", " in ", Value::Number(count.inward)),
-        shown("out", " out ", Value::Number(count.outward)),
-        shown("neither", " neither ", Value::Number(count.neither)),
+        shown!("in", " in ", Value::Number(count.inward)),
+        shown!("out", " out ", Value::Number(count.outward)),
+        shown!("neither", " neither ", Value::Number(count.neither)),
     ]
 }
 
 // Returns two counts, by the side that sent what is counted.
 fn sender_parts(inward: u64, outward: u64) -> [Part<'static>; 2] {
     [
-        shown("in", " in ", Value::Number(inward)),
-        shown("out", " out ", Value::Number(outward)),
+        shown!("in", " in ", Value::Number(inward)),
+        shown!("out", " out ", Value::Number(outward)),
     ]
 }
 
 fn half_parts(eras: u64, segments: u64) -> [Part<'static>; 2] {
     [
-        shown("eras", " eras ", Value::Number(eras)),
-        shown("segments", " segments ", Value::Number(segments)),
+        shown!("eras", " eras ", Value::Number(eras)),
+        shown!("segments", " segments ", Value::Number(segments)),
     ]
 }
 
 // Returns the IPv4 packets after tags, in PPPoE and after labels.
 fn tagged_parts(records: Tagged) -> [Part<'static>; 3] {
     [
-        shown("vlan", " vlan ", Value::Number(records.vlan)),
-        shown("pppoe", " pppoe ", Value::Number(records.pppoe)),
-        shown("mpls", " mpls ", Value::Number(records.mpls)),
+        shown!("vlan", " vlan ", Value::Number(records.vlan)),
+        shown!("pppoe", " pppoe ", Value::Number(records.pppoe)),
+        shown!("mpls", " mpls ", Value::Number(records.mpls)),
     ]
 }
 
 // Returns records by the option whose table was full.
 fn full_parts(full: Full) -> [Part<'static>; 5] {
     [
-        shown("flows", " flows ", Value::Number(full.flows)),
-        shown("cells", " cells ", Value::Number(full.cells)),
-        shown("quota", " quota ", Value::Number(full.quota)),
-        shown("frags", " frags ", Value::Number(full.frags)),
-        shown("frag_cells", " frag-cells ", Value::Number(full.frag_cells)),
+        shown!("flows", " flows ", Value::Number(full.flows)),
+        shown!("cells", " cells ", Value::Number(full.cells)),
+        shown!("quota", " quota ", Value::Number(full.quota)),
+        shown!("frags", " frags ", Value::Number(full.frags)),
+        shown!("frag_cells", " frag-cells ", Value::Number(full.frag_cells)),
     ]
 }
 
@@ -78,8 +78,8 @@ fn put_drops(text: &mut String, json: bool, drops: RuleDrops) -> Put {
         return put_object(
             text,
             &[
-                hidden("rule", of_text(drops.rule.name())),
-                hidden("count", Value::Number(drops.count)),
+                hidden!("rule", of_text(drops.rule.name())),
+                hidden!("count", Value::Number(drops.count)),
             ],
         );
     }
@@ -92,7 +92,7 @@ fn put_drops(text: &mut String, json: bool, drops: RuleDrops) -> Put {
 fn put_all_drops(text: &mut String, format: Format, rules: &[RuleDrops]) -> Put {
     let some = &rules[..rules.partition_point(|drops| drops.count > 0)];
     let json = format == Format::Json;
-    open_list(text, format, "by_rule", some.is_empty())?;
+    open_list(text, format, key!("by_rule"), some.is_empty())?;
     for (at, drops) in some.iter().enumerate() {
         put_text(text, before_drops(json, at))?;
         put_drops(text, json, *drops)?;
@@ -123,8 +123,8 @@ fn put_unjudged(
         text,
         format,
         &[
-            shown("records", " records ", Value::Number(records)),
-            shown("of", " of ", Value::Number(of)),
+            shown!("records", " records ", Value::Number(records)),
+            shown!("of", " of ", Value::Number(of)),
         ],
     )?;
     put_all_drops(text, format, rules)
@@ -149,7 +149,7 @@ fn put_counts(text: &mut String, format: Format, note: Note) -> Put {
         | Note::Cut { records } => put_fields(
             text,
             format,
-            &[shown("records", " records ", Value::Number(records))],
+            &[shown!("records", " records ", Value::Number(records))],
         ),
         Note::Unjudged { records, of, rules } => put_unjudged(text, format, records, of, &rules),
     }
@@ -223,6 +223,6 @@ pub(crate) fn put_note(text: &mut String, format: Format, note: Note) -> Put {
     put_fields(
         text,
         format,
-        &[shown("advice", ": ", of_text(advice(note)))],
+        &[shown!("advice", ": ", of_text(advice(note)))],
     )
 }

@@ -35,11 +35,6 @@ pub(crate) fn put_string(text: &mut String, piece: &str) -> Put {
     put_text(text, "\"")
 }
 
-/// Returns a comma, where it is needed.
-pub(crate) fn comma_where(wanted: bool) -> &'static str {
-    if wanted { "," } else { "" }
-}
-
 /// Returns what precedes an element of a list: the separator before all but the first.
 pub(crate) fn between(at: usize, separator: &'static str) -> &'static str {
     if at == 0 { "" } else { separator }

@@ -8,7 +8,7 @@ use crate::flow::{
 };
 use crate::put::Put;
 use crate::rule_list::put_explained;
-use crate::value::{Part, Value, Word, dashed, hidden, number_if, of_text, only_if, shown};
+use crate::value::{Part, Value, Word, dashed, hidden, key, number_if, of_text, only_if, shown};
 use crate::word::{by_word, side_word, verdict_word};
 use crate::{Format, ShownLine};
 use frame_view::Flow;
@@ -24,18 +24,15 @@ const SECOND: u64 = 1_000_000_000;
 // Returns the number of the line in the report.
 fn own_part(second: bool, number: u64, own: u32) -> Part<'static> {
     if second {
-        shown("number", "/", Value::Number(u64::from(own)))
+        shown!("number", "/", Value::Number(u64::from(own)))
     } else {
-        hidden("number", Value::Number(number))
+        hidden!("number", Value::Number(number))
     }
 }
 
 // Returns which way the packet went.
 fn side_of(side: Option<Side>) -> Value<'static> {
-    match side {
-        Some(side) => of_text(side_word(side)),
-        None => Value::Absent,
-    }
+    side.map_or(Value::Absent, |side| of_text(side_word(side)))
 }
 
 // Returns the text before an EtherType on a text line.
@@ -58,7 +55,7 @@ fn ether_of(ethertype: Option<u16>) -> Value<'static> {
 // Returns the protocol.
 fn proto_part(ethertype: Option<u16>, flow: Option<Flow>) -> Part<'static> {
     Part {
-        name: "proto",
+        key: key!("proto"),
         lead: Some(" "),
         dash: ethertype.is_none(),
         value: proto_of(flow),
@@ -75,34 +72,30 @@ fn is_fragment_rule(rule: Rule) -> bool {
     rule.name().as_bytes().first() == Some(&b'F')
 }
 
-// Returns whether a rule on fragments is among rules.
-fn names_fragments(rules: &[Rule]) -> bool {
-    rules.iter().any(|rule| is_fragment_rule(*rule))
-}
-
 // Returns the packet of a line that names a rule on fragments.
 fn fragment_in(rules: &[Rule], flow: Option<Flow>) -> Option<Flow> {
-    if names_fragments(rules) { flow } else { None }
+    let named = rules.iter().any(|rule| is_fragment_rule(*rule));
+    if named { flow } else { None }
 }
 
 // Returns the number of frames.
 fn frames_part(given: bool, count: u8) -> Part<'static> {
     if given {
-        hidden("frames", Value::Number(u64::from(count)))
+        hidden!("frames", Value::Number(u64::from(count)))
     } else {
-        shown("frames", " frames ", Value::Number(u64::from(count)))
+        shown!("frames", " frames ", Value::Number(u64::from(count)))
     }
 }
 
 // Returns the fields before those of the packet.
 fn front(view: &ShownLine) -> [Part<'_>; 6] {
     [
-        hidden("by", of_text(by_word(view.second))),
+        hidden!("by", of_text(by_word(view.second))),
         own_part(view.second, view.number, view.own),
-        shown("time", " ", Value::Word(Word::Time(view.time))),
-        hidden("seconds", Value::Number(view.time / SECOND)),
-        hidden("nanoseconds", Value::Number(view.time % SECOND)),
-        dashed("side", " ", side_of(view.entry.side)),
+        shown!("time", " ", Value::Word(Word::Time(view.time))),
+        hidden!("seconds", Value::Number(view.time / SECOND)),
+        hidden!("nanoseconds", Value::Number(view.time % SECOND)),
+        dashed!("side", " ", side_of(view.entry.side)),
     ]
 }
 
@@ -110,26 +103,26 @@ fn front(view: &ShownLine) -> [Part<'_>; 6] {
 fn packet(view: &ShownLine) -> [Part<'_>; 12] {
     let flow = view.flow;
     [
-        dashed("src_ip", " ", source_of(flow)),
-        shown("src_port", ":", source_port(flow)),
-        dashed("dest_ip", " > ", destination_of(flow)),
-        shown("dest_port", ":", destination_port(flow)),
+        dashed!("src_ip", " ", source_of(flow)),
+        shown!("src_port", ":", source_port(flow)),
+        dashed!("dest_ip", " > ", destination_of(flow)),
+        shown!("dest_port", ":", destination_port(flow)),
         proto_part(view.ethertype, flow),
-        shown(
+        shown!(
             "ethertype",
             ether_lead(view.ethertype),
             ether_of(view.ethertype),
         ),
-        shown("flags", " ", flags_of(flow)),
-        shown("seq", " seq ", seq_of(flow)),
-        shown("ack", " ack ", ack_of(flow)),
-        shown(
+        shown!("flags", " ", flags_of(flow)),
+        shown!("seq", " seq ", seq_of(flow)),
+        shown!("ack", " ack ", ack_of(flow)),
+        shown!(
             "window",
             " window ",
             only_if(names_window(view.entry.rules.as_slice()), window_of(flow)),
         ),
-        shown("icmp_type", " type ", icmp_type_of(flow)),
-        shown("icmp_code", " code ", icmp_code_of(flow)),
+        shown!("icmp_type", " type ", icmp_type_of(flow)),
+        shown!("icmp_code", " code ", icmp_code_of(flow)),
     ]
 }
 
@@ -138,13 +131,13 @@ fn judged(view: &ShownLine) -> [Part<'_>; 7] {
     let fragment = fragment_in(view.entry.rules.as_slice(), view.flow);
     let entry = &view.entry;
     [
-        shown("id", " id ", id_of(fragment)),
-        shown("offset", " offset ", offset_of(fragment)),
-        shown("more", " more", more_of(fragment)),
-        shown("length", " len ", Value::Number(view.length)),
-        shown("verdict", " ", of_text(verdict_word(entry.verdict))),
-        shown("era", " era ", number_if(entry.era.map(u64::from))),
-        shown(
+        shown!("id", " id ", id_of(fragment)),
+        shown!("offset", " offset ", offset_of(fragment)),
+        shown!("more", " more", more_of(fragment)),
+        shown!("length", " len ", Value::Number(view.length)),
+        shown!("verdict", " ", of_text(verdict_word(entry.verdict))),
+        shown!("era", " era ", number_if(entry.era.map(u64::from))),
+        shown!(
             "begun",
             " begins era ",
             number_if(entry.begun.map(u64::from)),
@@ -158,12 +151,12 @@ fn written(view: &ShownLine) -> [Part<'_>; 3] {
     let out = !view.given && count != 0;
     [
         frames_part(view.given, count),
-        shown(
+        shown!(
             "given",
             " given ",
             only_if(view.given, Value::Number(u64::from(count))),
         ),
-        shown(
+        shown!(
             "frames_out",
             " out ",
             only_if(out, Value::Frames { before, count }),
@@ -173,7 +166,7 @@ fn written(view: &ShownLine) -> [Part<'_>; 3] {
 
 // Returns which engines made the changes of a line: those of the second are compared with IN.
 fn changes_by(second: bool) -> Part<'static> {
-    hidden("changes_by", of_text(if second { "both" } else { "first" }))
+    hidden!("changes_by", of_text(if second { "both" } else { "first" }))
 }
 
 /// Writes the fields after the number of the record.
@@ -181,7 +174,7 @@ pub(crate) fn put_record(text: &mut String, format: Format, view: &ShownLine) ->
     put_fields(text, format, &front(view))?;
     put_fields(text, format, &packet(view))?;
     put_fields(text, format, &judged(view))?;
-    put_list(text, format, "ended", view.entry.ended.as_slice())?;
+    put_list(text, format, key!("ended"), view.entry.ended.as_slice())?;
     put_explained(text, format, view.entry.rules.as_slice())?;
     put_fields(text, format, &written(view))?;
     put_changes(text, format, view)?;

@@ -4,7 +4,7 @@ use crate::Format;
 use crate::field::{Element, put_list};
 use crate::json::put_object;
 use crate::put::{Put, put_number, put_string, put_text};
-use crate::value::{Value, hidden, number_if, of_text};
+use crate::value::{Value, hidden, key, number_if, of_text};
 use crate::word::reason_word;
 use rule_book::{Ended, Rule};
 
@@ -31,7 +31,7 @@ impl Element for Rule {
 /// Writes the field of the rules that are named; as text with what they say.
 pub(crate) fn put_explained(text: &mut String, format: Format, list: &[Rule]) -> Put {
     if format != Format::Text {
-        return put_list(text, format, "rules", list);
+        return put_list(text, format, key!("rules"), list);
     }
     for rule in list {
         rule.put(text, format)?;
@@ -65,9 +65,9 @@ impl Element for Ended {
             Format::Json => put_object(
                 text,
                 &[
-                    hidden("era", Value::Number(u64::from(self.era))),
-                    hidden("reason", of_text(reason_word(self.reason))),
-                    hidden("octets", number_if(self.octets)),
+                    hidden!("era", Value::Number(u64::from(self.era))),
+                    hidden!("reason", of_text(reason_word(self.reason))),
+                    hidden!("octets", number_if(self.octets)),
                 ],
             ),
         }

@@ -7,32 +7,49 @@ use crate::field::{
 use crate::json::put_object;
 use crate::put::{Put, between, put_number, put_text};
 use crate::rule_list::put_sentence;
-use crate::value::{Numbered, Part, Value, Word, hidden, of_text, shown};
+use crate::value::{Numbered, Part, Value, Word, hidden, key, make_part, of_text, shown};
 use crate::{EraCounts, Format, RuleCount, Sides, Summary, VerdictCounts};
 use run_notes::{HostCount, NumberCount};
+
+// The key of a field, and the text before it on a text line.
+type Named = (&'static str, &'static str);
+
+// The lines of the first engine, by side.
+const FIRST: [Named; 3] = [
+    (key!("in_lines"), "\nin "),
+    (key!("out_lines"), "\nout "),
+    (key!("neither_lines"), "\n- "),
+];
+
+// Those of the second.
+const SECOND: [Named; 3] = [
+    (key!("second_in_lines"), "\nsecond in "),
+    (key!("second_out_lines"), "\nsecond out "),
+    (key!("second_neither_lines"), "\nsecond - "),
+];
 
 // Returns how many lines have each verdict.
 fn verdict_parts(counts: &VerdictCounts) -> [Part<'static>; 4] {
     [
-        shown("pass", "pass ", Value::Number(counts.pass)),
-        shown("fix", " fix ", Value::Number(counts.fix)),
-        shown("hold", " hold ", Value::Number(counts.hold)),
-        shown("drop", " drop ", Value::Number(counts.drop)),
+        shown!("pass", "pass ", Value::Number(counts.pass)),
+        shown!("fix", " fix ", Value::Number(counts.fix)),
+        shown!("hold", " hold ", Value::Number(counts.hold)),
+        shown!("drop", " drop ", Value::Number(counts.drop)),
     ]
 }
 
 // Returns how many eras there are.
 fn era_parts(eras: &EraCounts) -> [Part<'static>; 9] {
     [
-        shown("all", "", Value::Number(eras.all)),
-        shown("live", " live ", Value::Number(eras.live)),
-        shown("reset", " reset ", Value::Number(eras.reset)),
-        shown("evicted", " evicted ", Value::Number(eras.evicted)),
-        shown("idle", " idle ", Value::Number(eras.idle)),
-        shown("reopened", " reopened ", Value::Number(eras.reopened)),
-        shown("opened_in", " opened in ", Value::Number(eras.opened_in)),
-        shown("opened_out", " out ", Value::Number(eras.opened_out)),
-        shown("opened_mid", " mid ", Value::Number(eras.opened_mid)),
+        shown!("all", "", Value::Number(eras.all)),
+        shown!("live", " live ", Value::Number(eras.live)),
+        shown!("reset", " reset ", Value::Number(eras.reset)),
+        shown!("evicted", " evicted ", Value::Number(eras.evicted)),
+        shown!("idle", " idle ", Value::Number(eras.idle)),
+        shown!("reopened", " reopened ", Value::Number(eras.reopened)),
+        shown!("opened_in", " opened in ", Value::Number(eras.opened_in)),
+        shown!("opened_out", " out ", Value::Number(eras.opened_out)),
+        shown!("opened_mid", " mid ", Value::Number(eras.opened_mid)),
     ]
 }
 
@@ -47,10 +64,10 @@ fn all_sides(count: RuleCount) -> u64 {
 // Returns how many lines name a rule, by side.
 fn rule_parts(count: RuleCount) -> [Part<'static>; 4] {
     [
-        hidden("rule", of_text(count.rule.name())),
-        hidden("in", Value::Number(count.inward)),
-        hidden("out", Value::Number(count.outward)),
-        hidden("neither", Value::Number(count.neither)),
+        hidden!("rule", of_text(count.rule.name())),
+        hidden!("in", Value::Number(count.inward)),
+        hidden!("out", Value::Number(count.outward)),
+        hidden!("neither", Value::Number(count.neither)),
     ]
 }
 
@@ -75,8 +92,8 @@ impl Element for RuleCount {
 impl Element for HostCount {
     fn put(&self, text: &mut String, format: Format) -> Put {
         let parts = [
-            shown("ip", "", Value::Word(Word::Address(self.ip))),
-            shown("count", " ", Value::Number(self.count)),
+            shown!("ip", "", Value::Word(Word::Address(self.ip))),
+            shown!("count", " ", Value::Number(self.count)),
         ];
         put_values(text, format, &parts)
     }
@@ -84,14 +101,8 @@ impl Element for HostCount {
 
 // Writes the field of the hosts of a side with their records, which no text line has where there
 // are none.
-fn put_hosts(
-    text: &mut String,
-    format: Format,
-    name: &str,
-    lead: &str,
-    hosts: &[HostCount],
-) -> Put {
-    open_list(text, format, name, hosts.is_empty())?;
+fn put_hosts(text: &mut String, format: Format, key: &str, lead: &str, hosts: &[HostCount]) -> Put {
+    open_list(text, format, key, hosts.is_empty())?;
     if format == Format::Text && !hosts.is_empty() {
         put_text(text, lead)?;
     }
@@ -103,29 +114,29 @@ fn put_hosts(
 // Returns how many records have a type or a protocol that is not judged.
 fn number_parts(kind: Numbered, number: NumberCount) -> [Part<'static>; 2] {
     let first = match kind {
-        Numbered::Types => shown(
+        Numbered::Types => shown!(
             "type",
             "\nethertype ",
             Value::Word(Word::Hex16(number.number)),
         ),
-        Numbered::Protocols => shown(
+        Numbered::Protocols => shown!(
             "protocol",
             "\nprotocol ",
             Value::Number(u64::from(number.number)),
         ),
     };
-    [first, shown("count", " ", Value::Number(number.count))]
+    [first, shown!("count", " ", Value::Number(number.count))]
 }
 
 // Writes the field of how many records have each type or protocol.
 fn put_numbers(
     text: &mut String,
     format: Format,
-    name: &str,
+    key: &str,
     kind: Numbered,
     list: &[NumberCount],
 ) -> Put {
-    open_list(text, format, name, list.is_empty())?;
+    open_list(text, format, key, list.is_empty())?;
     for (at, number) in list.iter().enumerate() {
         put_text(text, between(at, separator(format)))?;
         put_values(text, format, &number_parts(kind, *number))?;
@@ -138,91 +149,74 @@ fn put_numbers(
 fn frame_parts(frames: u64, unfinished: u64) -> [Part<'static>; 2] {
     let count = Value::Number(unfinished);
     [
-        shown("frames", "\nframes ", Value::Number(frames)),
+        shown!("frames", "\nframes ", Value::Number(frames)),
         if unfinished == 0 {
-            hidden("unfinished", count)
+            hidden!("unfinished", count)
         } else {
-            shown("unfinished", "\nunfinished ", count)
+            shown!("unfinished", "\nunfinished ", count)
         },
     ]
 }
 
-// Returns that there are no lines of a second engine.
-fn no_second() -> [Part<'static>; 3] {
-    [
-        hidden("second_in_lines", Value::Absent),
-        hidden("second_out_lines", Value::Absent),
-        hidden("second_neither_lines", Value::Absent),
-    ]
-}
-
-// Writes the field of how many lines have each verdict.
-fn put_verdicts(
-    text: &mut String,
-    format: Format,
-    name: &str,
-    lead: &str,
-    counts: &VerdictCounts,
-) -> Put {
-    put_group(text, format, name, lead, &verdict_parts(counts))
+// Writes the fields of how many lines of an engine have each verdict, by side.
+fn put_sides(text: &mut String, format: Format, fields: &[Named; 3], sides: &Sides) -> Put {
+    let [inward, outward, neither] = fields;
+    put_group(
+        text,
+        format,
+        inward.0,
+        inward.1,
+        &verdict_parts(&sides.inward),
+    )?;
+    put_group(
+        text,
+        format,
+        outward.0,
+        outward.1,
+        &verdict_parts(&sides.outward),
+    )?;
+    put_group(
+        text,
+        format,
+        neither.0,
+        neither.1,
+        &verdict_parts(&sides.neither),
+    )
 }
 
 // Writes the fields of the lines of the second engine, where there is one.
 fn put_second(text: &mut String, format: Format, second: Option<Sides>) -> Put {
-    let Some(sides) = second else {
-        return put_fields(text, format, &no_second());
-    };
-    put_verdicts(
-        text,
-        format,
-        "second_in_lines",
-        "\nsecond in ",
-        &sides.inward,
-    )?;
-    put_verdicts(
-        text,
-        format,
-        "second_out_lines",
-        "\nsecond out ",
-        &sides.outward,
-    )?;
-    put_verdicts(
-        text,
-        format,
-        "second_neither_lines",
-        "\nsecond - ",
-        &sides.neither,
-    )
-}
-
-// Writes the fields of the lines of the first engine.
-fn put_first(text: &mut String, format: Format, sides: &Sides) -> Put {
-    put_verdicts(text, format, "in_lines", "\nin ", &sides.inward)?;
-    put_verdicts(text, format, "out_lines", "\nout ", &sides.outward)?;
-    put_verdicts(text, format, "neither_lines", "\n- ", &sides.neither)
+    if let Some(sides) = second {
+        return put_sides(text, format, &SECOND, &sides);
+    }
+    for (key, _) in SECOND {
+        let absent = make_part(key, None, false, Value::Absent);
+        put_fields(text, format, &[absent])?;
+    }
+    Ok(())
 }
 
 // Writes the fields of what was not judged, and of the hosts.
 fn put_named(text: &mut String, format: Format, summary: &Summary<'_>) -> Put {
-    put_numbers(text, format, "types", Numbered::Types, summary.types)?;
+    put_numbers(text, format, key!("types"), Numbered::Types, summary.types)?;
     put_numbers(
         text,
         format,
-        "protocols",
+        key!("protocols"),
         Numbered::Protocols,
         summary.protocols,
     )?;
     put_hosts(
         text,
         format,
-        "outside_hosts",
+        key!("outside_hosts"),
         "\noutside ",
         summary.outside_hosts,
     )?;
     put_hosts(
         text,
         format,
-        "inside_hosts",
+        key!("inside_hosts"),
         "\ninside ",
         summary.inside_hosts,
     )
@@ -230,7 +224,7 @@ fn put_named(text: &mut String, format: Format, summary: &Summary<'_>) -> Put {
 
 /// Writes the fields after the number of records.
 pub(crate) fn put_summary(text: &mut String, format: Format, summary: &Summary<'_>) -> Put {
-    put_first(text, format, &summary.first)?;
+    put_sides(text, format, &FIRST, &summary.first)?;
     put_second(text, format, summary.second)?;
     put_fields(
         text,
@@ -238,11 +232,11 @@ pub(crate) fn put_summary(text: &mut String, format: Format, summary: &Summary<'
         &frame_parts(summary.frames, summary.unfinished),
     )?;
     put_named(text, format, summary)?;
-    put_list(text, format, "rule_counts", summary.rules)?;
+    put_list(text, format, key!("rule_counts"), summary.rules)?;
     put_group(
         text,
         format,
-        "era_counts",
+        key!("era_counts"),
         "\neras ",
         &era_parts(&summary.eras),
     )

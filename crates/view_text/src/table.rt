@@ -2,7 +2,7 @@
 
 use crate::put::{Put, put_number, put_text};
 use crate::text::put_frames;
-use crate::value::Value;
+use crate::value::{Part, Value};
 use crate::word::put_word;
 
 /// Writes a value.
@@ -15,4 +15,13 @@ pub(crate) fn put_cell(text: &mut String, value: Value<'_>) -> Put {
         Value::Word(word) => put_word(text, word),
         Value::Frames { before, count } => put_frames(text, before, count),
     }
+}
+
+/// Writes cells after the first.
+pub(crate) fn put_cells(text: &mut String, parts: &[Part<'_>]) -> Put {
+    for part in parts {
+        put_text(text, "\t")?;
+        put_cell(text, part.value)?;
+    }
+    Ok(())
 }

@@ -46,7 +46,8 @@ pub(crate) enum Numbered {
 /// A named value.
 #[derive(Clone, Copy)]
 pub(crate) struct Part<'a> {
-    pub(crate) name: &'static str,
+    /// The name, as `key` makes it.
+    pub(crate) key: &'static str,
     /// The text before the value on a text line, which lacks a value without a lead.
     pub(crate) lead: Option<&'static str>,
     /// It is on a text line even where it is absent.
@@ -54,35 +55,51 @@ pub(crate) struct Part<'a> {
     pub(crate) value: Value<'a>,
 }
 
-/// Returns a value that is on a text line where it is present.
-#[inline(always)]
-pub(crate) fn shown<'a>(name: &'static str, lead: &'static str, value: Value<'a>) -> Part<'a> {
-    Part {
-        name,
-        lead: Some(lead),
-        dash: false,
-        value,
-    }
+/// Makes of a name what JSON has before its value: a comma, the name in quotes, and a colon.
+macro_rules! key {
+    ($name:literal) => {
+        concat!(",\"", $name, "\":")
+    };
 }
 
-/// Returns a value that is always on a text line.
-#[inline(always)]
-pub(crate) fn dashed<'a>(name: &'static str, lead: &'static str, value: Value<'a>) -> Part<'a> {
-    Part {
-        name,
-        lead: Some(lead),
-        dash: true,
-        value,
-    }
+/// Makes a value that is on a text line where it is present.
+macro_rules! shown {
+    ($name:literal, $lead:expr, $value:expr $(,)?) => {
+        $crate::value::make_part($crate::value::key!($name), Some($lead), false, $value)
+    };
 }
 
-/// Returns a value that is never on a text line.
+/// Makes a value that is always on a text line.
+macro_rules! dashed {
+    ($name:literal, $lead:expr, $value:expr $(,)?) => {
+        $crate::value::make_part($crate::value::key!($name), Some($lead), true, $value)
+    };
+}
+
+/// Makes a value that is never on a text line.
+macro_rules! hidden {
+    ($name:literal, $value:expr $(,)?) => {
+        $crate::value::make_part($crate::value::key!($name), None, false, $value)
+    };
+}
+
+pub(crate) use dashed;
+pub(crate) use hidden;
+pub(crate) use key;
+pub(crate) use shown;
+
+/// Returns a named value.
 #[inline(always)]
-pub(crate) fn hidden<'a>(name: &'static str, value: Value<'a>) -> Part<'a> {
+pub(crate) fn make_part<'a>(
+    key: &'static str,
+    lead: Option<&'static str>,
+    dash: bool,
+    value: Value<'a>,
+) -> Part<'a> {
     Part {
-        name,
-        lead: None,
-        dash: false,
+        key,
+        lead,
+        dash,
         value,
     }
 }

@@ -9,6 +9,18 @@ use frame_view::Made;
 use rule_book::{Reason, Verdict};
 use wire_base::{Addr, Side, protocol};
 
+// The flags of a segment, in the order in which their letters are written.
+const LETTERS: [(u32, &str); 8] = [
+    (2, "S"),
+    (1, "F"),
+    (4, "R"),
+    (8, "P"),
+    (16, "A"),
+    (32, "U"),
+    (64, "E"),
+    (128, "C"),
+];
+
 /// Writes a word.
 pub(crate) fn put_word(text: &mut String, word: Word<'_>) -> Put {
     match word {
@@ -25,14 +37,25 @@ pub(crate) fn put_word(text: &mut String, word: Word<'_>) -> Put {
 
 // Writes an address: four numbers with dots between them.
 fn put_address(text: &mut String, address: Addr) -> Put {
-    let number = u64::from(address.0);
-    put_number(text, number / 0x100_0000)?;
+    let [first, second, third, fourth] = address.0.to_be_bytes();
+    put_part(text, first)?;
     put_text(text, ".")?;
-    put_number(text, number / 0x1_0000 % 0x100)?;
+    put_part(text, second)?;
     put_text(text, ".")?;
-    put_number(text, number / 0x100 % 0x100)?;
+    put_part(text, third)?;
     put_text(text, ".")?;
-    put_number(text, number % 0x100)
+    put_part(text, fourth)
+}
+
+// Writes a number of an address.
+fn put_part(text: &mut String, number: u8) -> Put {
+    if number >= 100 {
+        put_char(text, b'0' + number / 100)?;
+    }
+    if number >= 10 {
+        put_char(text, b'0' + number / 10 % 10)?;
+    }
+    put_char(text, b'0' + number % 10)
 }
 
 // Writes the letters of the flags that are set.
@@ -40,31 +63,12 @@ fn put_flags(text: &mut String, flags: u32) -> Put {
     if flags == 0 {
         return put_text(text, "none");
     }
-    put_low_letters(text, flags)?;
-    put_high_letters(text, flags)
-}
-
-// Returns the letter of a flag where it is set.
-fn letter(flags: u32, weight: u32, name: &'static str) -> &'static str
-    requires { 0 < weight }
-{
-    if flags / weight % 2 == 1 { name } else { "" }
-}
-
-// Writes the letters of SYN, FIN, RST and PSH where they are set.
-fn put_low_letters(text: &mut String, flags: u32) -> Put {
-    put_text(text, letter(flags, 2, "S"))?;
-    put_text(text, letter(flags, 1, "F"))?;
-    put_text(text, letter(flags, 4, "R"))?;
-    put_text(text, letter(flags, 8, "P"))
-}
-
-// Writes the letters of ACK, URG, ECE and CWR where they are set.
-fn put_high_letters(text: &mut String, flags: u32) -> Put {
-    put_text(text, letter(flags, 16, "A"))?;
-    put_text(text, letter(flags, 32, "U"))?;
-    put_text(text, letter(flags, 64, "E"))?;
-    put_text(text, letter(flags, 128, "C"))
+    for (flag, letter) in LETTERS {
+        if flags & flag != 0 {
+            put_text(text, letter)?;
+        }
+    }
+    Ok(())
 }
 
 // Writes the name of a protocol, or its number.

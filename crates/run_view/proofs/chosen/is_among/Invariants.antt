@@ -1,5 +1,5 @@
 use Rattle.std.proofs.Common.{◌≡◌, drop}
-use Rattle.run_view.specs.Judged.{is_among}
+use Rattle.run_view.specs.LineJudgments.{is_among}
 use Rattle.run_view.proofs.chosen.is_among.Given as goal
 
 abbrev pub invariant-loop-rule : goal.invariant-loop-rule

@@ -1,5 +1,5 @@
 use Rattle.std.proofs.Common.{◌≡◌, drop}
-use Rattle.run_view.specs.Chosen.{names_one}
+use Rattle.run_view.specs.ChosenRecords.{names_one}
 use Rattle.run_view.proofs.chosen.names_one.Given as goal
 
 abbrev pub invariant-loop-rule : goal.invariant-loop-rule

@@ -1,10 +1,10 @@
 use Rattle.std.proofs.Common.{Bool, subst, inl, inr}
 use Rattle.std.proofs.lemmas.Result.{err_from_is_err_and}
-use Rattle.pcap_file.specs.Reads.{shown as packet_of}
-use Rattle.run_view.specs.ReadAhead.{GoesOn, left_in}
+use Rattle.pcap_file.specs.RecordReading.{shown as packet_of}
+use Rattle.run_view.specs.working.LinesAhead.{GoesOn, left_in}
 use Rattle.run_view.specs.Items.{frames_of, packets_of}
-use Rattle.run_view.specs.Runs.{sources_of}
-use Rattle.run_view.proofs.Ending.{is_over, took_last}
+use Rattle.run_view.specs.RunFiles.{sources_of}
+use Rattle.run_view.proofs.Shown.{is_over, took_last}
 use Rattle.run_view.proofs.Finished.{one_frame, one_line, one_record}
 use Rattle.run_view.proofs.NextLine.{told_of}
 use Rattle.run_view.proofs.Records.{begins_at, frames_at}

@@ -1,5 +1,5 @@
 use Rattle.std.proofs.Common.{◌++◌}
-use Rattle.pcap_file.specs.Reads.{shown}
+use Rattle.pcap_file.specs.RecordReading.{shown}
 use Rattle.run_view.proofs.item.add_frame.Goals as goal
 
 pub returns-clause-added : goal.returns-clause-added

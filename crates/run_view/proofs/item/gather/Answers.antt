@@ -1,6 +1,6 @@
 use Rattle.std.proofs.Common.{sym, ◌∙◌}
-use Rattle.run_view.specs.Steps.{plain_original}
-use Rattle.run_view.proofs.Frames.{accepted_of}
+use Rattle.run_view.specs.working.RecordReading.{plain_original}
+use Rattle.run_view.proofs.Records.{accepted_of}
 use Rattle.run_view.proofs.item.gather.Goals as goal
 
 pub returns-clause-read : goal.returns-clause-read

@@ -1,6 +1,6 @@
 use Rattle.std.proofs.Common.{◌∙◌, arith, rules}
 use Rattle.std.proofs.lemmas.Result.{err_from_is_err_and}
-use Rattle.run_view.proofs.Frames.{own_stops, read_more}
+use Rattle.run_view.proofs.Records.{own_stops, read_more}
 use Rattle.run_view.proofs.item.gather_all.Goals as goal
 
 pub returns-in_err-add_frame-clause-stops : goal.returns-in_err-add_frame-clause-stops

@@ -2,8 +2,8 @@ use Rattle.std.proofs.Common.{◌≡◌, ◌+◌, ℕ, List}
 use Rattle.std.specs.Prelude.{Option}
 use Rattle.pcap_file.specs.declared.head.Head.{Head}
 use Rattle.pcap_file.specs.Records.{Packet}
-use Rattle.run_view.specs.Readers.{OutputAt}
-use Rattle.run_view.specs.Steps.{FramesRead, MayRead, plain_original}
+use Rattle.run_view.specs.working.ReaderPositions.{OutputAt}
+use Rattle.run_view.specs.working.RecordReading.{FramesRead, MayRead, plain_original}
 use Rattle.run_view.proofs.item.gather_all.Given as goal
 
 abbrev pub invariant-loop-number : goal.invariant-loop-number

@@ -1,5 +1,5 @@
 use Rattle.std.proofs.Common.{Err, ap}
-use Rattle.run_view.proofs.Frames.{frame_stops}
+use Rattle.run_view.proofs.Records.{frame_stops}
 use Rattle.run_view.proofs.sources.next_frame.Goals as goal
 
 pub returns-in-Err-clause-stops : goal.returns-in-Err-clause-stops

@@ -3,9 +3,9 @@ use Rattle.std.specs.Prelude.{IfSome}
 use Rattle.pcap_file.specs.declared.record.Record.{Record}
 use Rattle.capture_input.specs.declared.input.Input.{Input}
 use Rattle.capture_input.specs.Inputs.{Walk}
-use Rattle.capture_input.specs.Reading.{is_open_in}
-use Rattle.capture_input.specs.Reads.{Reads}
-use Rattle.run_view.specs.Readers.{IsBehind}
+use Rattle.capture_input.specs.ReaderState.{is_open_in}
+use Rattle.capture_input.specs.RecordReading.{Reads}
+use Rattle.run_view.specs.working.ReaderPositions.{IsBehind}
 use Rattle.run_view.proofs.Records.{record_stops}
 use Rattle.run_view.proofs.sources.next_record.Goals as goal
 

@@ -1,15 +1,10 @@
-use Rattle.std.proofs.Common.{inl, inr, refl, sym, ap, subst, ◌∙◌, arith, rules}
-use Rattle.std.specs.Prelude.{IfSome}
+use Rattle.std.proofs.Common.{inl, inr, sym, ◌∙◌, arith, rules}
 use Rattle.std.proofs.lemmas.Result.{err_from_is_err_and}
 use Rattle.rule_book.specs.Entries.{plain}
-use Rattle.run_view.specs.ReadAhead.{line_in}
+use Rattle.run_view.specs.working.LinesAhead.{line_in}
 use Rattle.run_view.specs.Forms.{version_of}
-use Rattle.run_view.proofs.ReportNext.{IsNoNext}
-use Rattle.run_view.specs.Runs.{sources_of}
-use Rattle.run_view.specs.ViewerAt.{turn_in}
-use Rattle.run_view.specs.declared.turn.Turn.{Turn}
-use Rattle.run_view.proofs.Finished.{no_line}
-use Rattle.run_view.proofs.OtherLines.{amiss_so, few_turn, none_told, other_number, part_told, told_so}
+use Rattle.run_view.specs.working.ViewerProgress.{turn_in}
+use Rattle.run_view.proofs.Fronts.{amiss_so, few_turn, none_told, other_number, part_told, told_so}
 use Rattle.run_view.proofs.NextLine.{going_ahead, going_at, going_on, next_line_of, next_other}
 use Rattle.run_view.proofs.Stopping.{says_more}
 use Rattle.run_view.proofs.take.step.Goals as goal

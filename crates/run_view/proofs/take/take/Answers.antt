@@ -1,10 +1,10 @@
 use Rattle.std.proofs.Common.{◌≡◌, ◌+◌, Bool, true, inr, sym, subst, if◌then◌else◌}
 use Rattle.rule_book.specs.Entries.{plain}
-use Rattle.run_view.specs.Items.{line_by, waits}
-use Rattle.run_view.specs.ViewerAt.{Taken, ends_of}
-use Rattle.run_view.proofs.Ending.{some_waits}
-use Rattle.run_view.proofs.Results.{if_err, on_ok}
-use Rattle.run_view.proofs.Stopping.{says_more}
+use Rattle.run_view.specs.Items.{line_by}
+use Rattle.run_view.specs.working.LinePositions.{waits}
+use Rattle.run_view.specs.working.ViewerProgress.{Taken, ends_of}
+use Rattle.run_view.proofs.Shown.{some_waits}
+use Rattle.run_view.proofs.Stopping.{if_err, on_ok, says_more}
 use Rattle.run_view.proofs.take.take.Goals as goal
 
 pub returns-else-viewer-eq0-clause-taken : goal.returns-else-viewer-eq0-clause-taken

@@ -1,10 +1,11 @@
 use Rattle.std.proofs.Common.{◌+◌, ◌∙◌, ◌∷◌, false, None, refl, sym, ap, inl, inr}
 use Rattle.std.proofs.lemmas.Result.{err_from_is_err_and}
-use Rattle.pcap_file.specs.Reads.{shown as packet_of}
+use Rattle.pcap_file.specs.RecordReading.{shown as packet_of}
 use Rattle.rule_book.specs.Entries.{plain}
-use Rattle.run_view.specs.Items.{frames_of, is_passed, packets_of, waits}
+use Rattle.run_view.specs.Items.{frames_of, is_passed, packets_of}
+use Rattle.run_view.specs.working.LinePositions.{waits}
 use Rattle.run_view.proofs.Records.{begins_at}
-use Rattle.run_view.specs.Runs.{sources_of}
+use Rattle.run_view.specs.RunFiles.{sources_of}
 use Rattle.run_view.proofs.Finished.{no_record, record_stop}
 use Rattle.run_view.proofs.LineTaken.{taken_first}
 use Rattle.run_view.proofs.NextLine.{told_of}

@@ -1,8 +1,9 @@
-use Rattle.std.proofs.Common.{true, refl, sym, ap, arith, ◌∙◌}
+use Rattle.std.proofs.Common.{refl, sym, ap, arith, ◌∙◌}
 use Rattle.std.proofs.lemmas.Result.{err_from_is_err_and}
 use Rattle.rule_book.specs.Entries.{plain}
-use Rattle.run_view.specs.Items.{frames_of, waits}
-use Rattle.run_view.proofs.Ending.{some_waits}
+use Rattle.run_view.specs.Items.{frames_of}
+use Rattle.run_view.specs.working.LinePositions.{waits}
+use Rattle.run_view.proofs.Shown.{some_waits}
 use Rattle.run_view.proofs.LineTaken.{held_stop, taken_second}
 use Rattle.run_view.proofs.take.take_second.Goals as goal
 

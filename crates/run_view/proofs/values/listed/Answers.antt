@@ -1,7 +1,7 @@
 use Rattle.std.proofs.Common.{◌+◌, ◌∙◌, sym, ap, arith}
 use Rattle.std.specs.ControlFlow.{continue_value}
 use Rattle.std.proofs.lemmas.List.{take_rest}
-use Rattle.run_view.proofs.Commas.{names_behind, names_step}
+use Rattle.run_view.proofs.Conditions.{names_behind, names_step}
 use Rattle.run_view.proofs.values.listed.Goals as goal
 
 pub returns-in_err-names : goal.returns-in_err-names

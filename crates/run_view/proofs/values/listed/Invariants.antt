@@ -1,6 +1,6 @@
 use Rattle.std.proofs.Common.{◌≡◌, ◌≤◌, ◌+◌, ◌-◌, ◌==◌, nat_le, length, drop, Some, if◌then◌else◌}
 use Rattle.std.specs.List.{slice_split}
-use Rattle.run_view.specs.Words.{listed, with_names_of}
+use Rattle.run_view.specs.ViewWords.{listed, with_names_of}
 use Rattle.run_view.proofs.values.listed.Given as goal
 
 abbrev pub invariant-items : goal.invariant-items

@@ -1,12 +1,11 @@
 use Rattle.std.proofs.Common.{ap, inl, inr, ◌∙◌}
 use Rattle.pcap_file.specs.declared.head.Head.{Head}
 use Rattle.std.proofs.lemmas.Result.{err_from_is_err_and}
-use Rattle.run_view.specs.Runs.{counts_of, sources_of}
-use Rattle.run_view.specs.ViewerAt.{ends_of}
+use Rattle.run_view.specs.RunFiles.{counts_of, sources_of}
+use Rattle.run_view.specs.working.ViewerProgress.{ends_of}
 use Rattle.run_view.proofs.Finished.{files_more, no_first}
-use Rattle.run_view.proofs.Results.{if_err, if_ok}
-use Rattle.run_view.proofs.Starting.{first_at, first_taken, fresh_so_far, two_links, viewed_fresh}
-use Rattle.run_view.proofs.Stopping.{says_more}
+use Rattle.run_view.proofs.Stopping.{if_err, if_ok, says_more}
+use Rattle.run_view.proofs.Shown.{first_at, first_taken, fresh_so_far, two_links, viewed_fresh}
 use Rattle.run_view.proofs.viewer.view_asked.Goals as goal
 
 pub returns-clause-viewed : goal.returns-clause-viewed

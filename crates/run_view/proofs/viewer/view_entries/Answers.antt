@@ -1,9 +1,8 @@
 use Rattle.std.proofs.Common.{◌∙◌, arith}
 use Rattle.std.proofs.lemmas.Result.{err_from_is_err_and}
-use Rattle.run_view.specs.Runs.{counts_of}
-use Rattle.run_view.proofs.Ending.{whole_at, whole_now}
-use Rattle.run_view.proofs.Results.{both_ok, if_err, if_ok}
-use Rattle.run_view.proofs.Stopping.{rest_more, rose_within, says_more, to_its_end}
+use Rattle.run_view.specs.RunFiles.{counts_of}
+use Rattle.run_view.proofs.Shown.{whole_at, whole_now}
+use Rattle.run_view.proofs.Stopping.{both_ok, if_err, if_ok, rest_more, rose_within, says_more, to_its_end}
 use Rattle.run_view.proofs.viewer.view_entries.Goals as goal
 
 pub returns-in_err-step-clause-stops : goal.returns-in_err-step-clause-stops

@@ -1,8 +1,8 @@
 use Rattle.std.proofs.Common.{◌≡◌, ◌-◌, ◌^◌, []}
 use Rattle.pcap_file.specs.declared.head.Head.{Head}
-use Rattle.run_view.specs.ReadAhead.{left_in}
-use Rattle.run_view.specs.ViewerAt.{Ends, MayTake, ViewerAt, ends_of, lines_in}
-use Rattle.run_view.specs.Progress.{Going}
+use Rattle.run_view.specs.working.LinesAhead.{left_in}
+use Rattle.run_view.specs.working.ViewerProgress.{Ends, MayTake, ViewerAt, ends_of, lines_in}
+use Rattle.run_view.specs.working.LineProgress.{Going}
 use Rattle.run_view.proofs.viewer.view_entries.Given as goal
 
 abbrev pub invariant-entries : goal.invariant-entries

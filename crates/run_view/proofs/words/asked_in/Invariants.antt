@@ -1,5 +1,5 @@
 use Rattle.std.proofs.Common.{◌≡◌, map, drop, string_bytes}
-use Rattle.run_view.specs.Words.{asked_in, asked_from}
+use Rattle.run_view.specs.ViewWords.{asked_in, asked_from}
 use Rattle.run_view.proofs.words.asked_in.Given as goal
 
 abbrev pub invariant-loop-place : goal.invariant-loop-place

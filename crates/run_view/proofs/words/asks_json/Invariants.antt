@@ -1,5 +1,5 @@
 use Rattle.std.proofs.Common.{◌≡◌, map, drop, string_bytes}
-use Rattle.run_view.specs.Words.{asks_json}
+use Rattle.run_view.specs.working.JsonWords.{asks_json}
 use Rattle.run_view.proofs.words.asks_json.Given as goal
 
 abbrev pub invariant-loop-word : goal.invariant-loop-word

@@ -1,5 +1,5 @@
 use Rattle.std.proofs.Common.{◌≡◌, drop}
-use Rattle.run_view.specs.Words.{all_choices, word_in}
+use Rattle.run_view.specs.ViewWords.{all_choices, word_in}
 use Rattle.run_view.proofs.words.option_met.Given as goal
 
 abbrev pub invariant-loop-choice : goal.invariant-loop-choice

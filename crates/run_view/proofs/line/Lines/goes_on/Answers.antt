@@ -1,6 +1,6 @@
 use Rattle.std.proofs.Common.{List, ℕ, Bool, not, subst, sym}
 use Rattle.std.specs.Io.KnownBytes.{Keeps, prepend_known}
-use Rattle.run_view.specs.ReadAhead.{GoesOn, left_in}
+use Rattle.run_view.specs.working.LinesAhead.{GoesOn, left_in}
 use Rattle.run_view.proofs.Lining.{goes_by}
 use Rattle.run_view.proofs.line.Lines.goes_on.Goals as goal
 

@@ -1,5 +1,5 @@
 use Rattle.std.proofs.Common.{List, ℕ, ◌≡◌, ◌≤◌, length, take, sym, ap, subst, ◌∙◌, rules}
-use Rattle.run_view.specs.Lines.{front_line}
+use Rattle.run_view.specs.working.FrontLine.{front_line}
 use Rattle.run_view.proofs.Lining.{line_taken}
 use Rattle.run_view.proofs.line.Lines.next.Goals as goal
 

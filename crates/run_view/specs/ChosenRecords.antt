@@ -5,7 +5,7 @@ use Rattle.std.specs.Prelude.{ℕ, ◌==◌, ◌&&◌, ◌||◌, not, get_or, Bo
 use Rattle.std.specs.List.{list_any}
 use Rattle.wire_base.specs.declared.address.Side.{Side}
 use Rattle.wire_base.specs.declared.address.Side.TheVariants.{Inward, Outward}
-use Rattle.wire_base.specs.declared.prefix.Prefix.{Prefix}
+use Rattle.wire_base.specs.declared.address.Prefix.{Prefix}
 use Rattle.wire_base.specs.Prefixes.{holds}
 use Rattle.pcap_file.specs.declared.head.Head.{Head}
 use Rattle.rule_book.specs.Entries.{PlainEntry}
@@ -20,7 +20,7 @@ use Rattle.run_view.specs.declared.words.Asked.{Asked}
 use Rattle.run_view.specs.declared.words.EraAsked.{EraAsked}
 use Rattle.run_view.specs.declared.words.Print.TheVariants as prints
 use Rattle.run_view.specs.Items.{Item, flow_at, is_second}
-use Rattle.run_view.specs.Judged.{is_pass}
+use Rattle.run_view.specs.LineJudgments.{is_pass}
 
 -- the place of a verdict, and of a side, in a list of such names; that of a rule is its number
 abbrev pub verdict_place : Verdict → ℕ

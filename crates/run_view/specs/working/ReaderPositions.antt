@@ -2,20 +2,20 @@
 -- frames are lists with the newest at the head. `all` is what a source had left at first, and
 -- `left` what it has left now, where these are known.
 use Rattle.std.specs.Prelude.{◌≡◌, ◌⊎◌, ℕ, true, List, [], ◌∷◌, length, Option, Some, None, IfSome}
-use Rattle.edge_io.specs.Faults.{Rose}
+use Rattle.edge_io.specs.FaultCounts.{Rose}
 use Rattle.wire_base.specs.declared.address.Link.{Link}
 use Rattle.pcap_file.specs.declared.head.Head.{Head}
 use Rattle.pcap_file.specs.declared.record.Record.{Record}
 use Rattle.pcap_file.specs.Records.{Packet}
 use Rattle.pcap_file.specs.Capture.{IsCapture, offset_of}
-use Rattle.pcap_file.specs.Reading.{Reading}
-use Rattle.pcap_file.specs.Reads.{shown}
+use Rattle.pcap_file.specs.ReaderState.{Reading}
+use Rattle.pcap_file.specs.RecordReading.{shown}
 use Rattle.capture_input.specs.declared.input.Input.{Input}
 use Rattle.capture_input.specs.Inputs.{Walk, packets_in, Took, TookAll}
-use Rattle.capture_input.specs.Reading.{Behind, head_in, is_open_in}
-use Rattle.run_view.specs.Contents.{TookFrames}
-use Rattle.run_view.specs.Runs.{IsNoCapture, IsNoInput, IsOfOtherLink}
-use Rattle.run_view.specs.Stops.{Says}
+use Rattle.capture_input.specs.ReaderState.{Behind, head_in, is_open_in}
+use Rattle.run_view.specs.working.SourceContents.{TookFrames}
+use Rattle.run_view.specs.RunFiles.{IsNoCapture, IsNoInput, IsOfOtherLink}
+use Rattle.run_view.specs.StopMeanings.{Says}
 use Rattle.run_view.specs.declared.stop.Stop.{Stop}
 
 -- exactly these records were read of the input

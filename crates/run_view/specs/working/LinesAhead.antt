@@ -1,8 +1,8 @@
 -- The octets of a report that are read ahead, and its lines (this project's profile).
 use Rattle.std.specs.Prelude.{◌≡◌, ◌⊎◌, ℕ, ◌+◌, ◌≤◌, Bool, true, false, List, slice_range, Option, IfSome}
 use Rattle.std.specs.Io.KnownBytes.{Consumes, IsAtEnd, prepend_known}
-use Rattle.run_view.specs.Contents.{IsSomeOctet}
-use Rattle.run_view.specs.Lines.{front_line}
+use Rattle.run_view.specs.working.SourceContents.{IsSomeOctet}
+use Rattle.run_view.specs.working.FrontLine.{front_line}
 use Rattle.run_view.specs.declared.line.Lines.{Lines}
 
 -- the octets that were read ahead

@@ -4,16 +4,16 @@ use Rattle.std.specs.Prelude.{ℕ, ◌==◌, ◌&&◌, not, get_or, slice_set, r
 use Rattle.std.specs.List.{list_any, slice_split}
 use Rattle.std.specs.Result.{result_ok}
 use Rattle.std.specs.Str.{bytes_eq}
-use Rattle.norm_settings.specs.Options.{Text, is_name, number_within}
-use Rattle.norm_settings.specs.Line.{after_front, begins_with_dash}
+use Rattle.norm_settings.specs.OptionTable.{Text, is_name, number_within}
+use Rattle.norm_settings.specs.RunWords.{after_front, begins_with_dash}
 use Rattle.rule_book.specs.Rules.{rule_named, rule_number}
 use Rattle.rule_book.specs.declared.entry.Verdict.{Verdict}
 use Rattle.rule_book.specs.declared.entry.Verdict.TheVariants.{Pass, Fix, Hold, Drop}
 use Rattle.wire_base.specs.declared.address.Side.{Side}
 use Rattle.wire_base.specs.declared.address.Side.TheVariants.{Inward, Outward}
-use Rattle.wire_base.specs.declared.prefix.Prefix.{Prefix}
+use Rattle.wire_base.specs.declared.address.Prefix.{Prefix}
 use Rattle.wire_base.specs.Prefixes.{after, before, prefix_of_parts}
-use Rattle.run_view.specs.Chosen.{has_choice, side_place, verdict_place}
+use Rattle.run_view.specs.ChosenRecords.{has_choice, side_place, verdict_place}
 use Rattle.run_view.specs.declared.words.Asked.{Asked}
 use Rattle.run_view.specs.declared.words.Choice.{Choice}
 use Rattle.run_view.specs.declared.words.Choice.TheVariants.{ByTable, ByRule, ByEra, ByVerdict, BySide, ByHost}
@@ -156,10 +156,6 @@ pub data Word : Type 0 where
 -- the word is `--json`
 abbrev pub is_json : Text → Bool
 is_json word = bytes_eq word (codes "--json")
-
--- JSON is asked for, even by invalid arguments
-abbrev pub asks_json : List Text → Bool
-asks_json words = list_any is_json words
 
 -- the option with the text after its name: nothing, or `=` (61) and a value; None if it is neither
 abbrev pub word_by : Choice → Option Text → Option Word

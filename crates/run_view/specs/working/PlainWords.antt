@@ -1,7 +1,7 @@
 -- A word of the code, over plain values.
 use Rattle.run_view.specs.declared.words.Met.{Met}
 use Rattle.run_view.specs.declared.words.Met.TheVariants.{Marked, Joined, Parted, Name, Unknown}
-use Rattle.run_view.specs.Words.{Word, marked, joined, parted, name, unknown}
+use Rattle.run_view.specs.ViewWords.{Word, marked, joined, parted, name, unknown}
 
 -- the word as a list of octets
 abbrev pub plain_word : Met → Word

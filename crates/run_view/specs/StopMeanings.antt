@@ -1,12 +1,8 @@
 -- Why a run is not viewed to its end: the statuses, and what a stop says (this project's profile).
-use Rattle.std.specs.Prelude.{◌≡◌, ◌≢◌, ℕ, false, List, ◌++◌, if◌then◌else◌}
-use Rattle.edge_io.specs.Faults.{Rose}
+use Rattle.std.specs.Prelude.{◌≡◌, ℕ, false}
 use Rattle.capture_input.specs.Faults.{is_read_fault}
 use Rattle.capture_input.specs.declared.fault.InputFault.{InputFault}
 use Rattle.capture_input.specs.declared.fault.InputFault.TheVariants as faults
-use Rattle.run_view.specs.Forms.{heading}
-use Rattle.run_view.specs.Runs.{AreNoRest, AreNoRun, FaultCounts, IsNoCapture, IsNoInput, IsNoOutput, SourceRose, Sources}
-use Rattle.run_view.specs.declared.form.Form.{Form}
 use Rattle.run_view.specs.declared.stop.Stop.{Stop}
 use Rattle.run_view.specs.declared.stop.Stop.TheVariants as stops
 
@@ -34,14 +30,6 @@ status_of stops.Unwritten = 7
 status_of stops.Memory = 8
 status_of (stops.Report line) = 9
 
--- the stop at a fault of the input, or of the output; a failure of a source is no fault of its
--- octets
-abbrev pub input_stop : InputFault → (offset : ℕ) → Stop
-input_stop fault offset = if is_read_fault fault then stops.Unread else stops.Input fault offset
-
-abbrev pub output_stop : InputFault → (offset : ℕ) → Stop
-output_stop fault offset = if is_read_fault fault then stops.Unread else stops.Output fault offset
-
 -- what a stop says: invalid arguments, the files are those of no run, the input or the output is no
 -- capture, a source or the output failed; nothing is claimed of memory
 abbrev pub Meaning : (refused no_run no_input no_output unread unwritten : Type 0) → Stop → Type 0
@@ -57,19 +45,3 @@ Meaning refused no_run no_input no_output unread unwritten stops.Memory = Unit {
 
 pub record Says (refused no_run no_input no_output unread unwritten : Type 0) (stop : Stop) : Type 0 where
   pub is : Meaning refused no_run no_input no_output unread unwritten stop
-
--- why a view stops whose words were accepted
-abbrev pub FilesStop : (s : Sources) (before now : FaultCounts) → Stop → Type 0
-FilesStop s before now = Says ⊥ (AreNoRun s) (IsNoInput s.input) (IsNoOutput s) (SourceRose before now) (Rose before.out now.out)
-
--- why one stops after the first line of the report, which is read so
-abbrev pub RestStop : Form → (s : Sources) (before now : FaultCounts) → Stop → Type 0
-RestStop form s before now = Says ⊥ (AreNoRest form s) (IsNoInput s.input) (IsNoCapture s.output) (SourceRose before now) (Rose before.out now.out)
-
--- why the output was not written
-abbrev pub OutStop : (before now : ℕ) → Stop → Type 0
-OutStop before now = Says ⊥ ⊥ ⊥ ⊥ ⊥ (Rose before now)
-
--- the octets do not begin with the first line of a report of one of the forms
-abbrev pub IsNoFirst : (octets : List ℕ) → Type 0
-IsNoFirst octets = (form : Form) → (rest : List ℕ) → octets ≢ heading form ++ rest

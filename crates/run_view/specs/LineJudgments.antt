@@ -9,7 +9,6 @@ use Rattle.rule_book.specs.declared.rule.Rule.{Rule}
 use Rattle.rule_book.specs.declared.rule.Rule.TheVariants.{CProbe, FDone}
 use Rattle.frame_view.specs.declared.change.Made.{Made}
 use Rattle.frame_view.specs.declared.change.Made.TheVariants.{Probe, Datagram}
-use Rattle.run_view.specs.declared.judged.Judged.{Judged}
 use Rattle.run_view.specs.declared.judged.Kinds.{Kinds}
 
 -- the rule with this number is among these
@@ -27,11 +26,6 @@ is_drop _ = false
 abbrev pub is_pass : Verdict → Bool
 is_pass Pass = true
 is_pass _ = false
-
--- what the first engine said of a record, as far as it is kept
-abbrev pub judged_by : PlainEntry → Judged
-judged_by entry =
-    record { number = entry.number; side = entry.side; era = entry.era; passed = is_pass entry.verdict; dropped = is_drop entry.verdict; probe = names CProbe entry; datagram = names FDone entry }
 
 -- Which frames of a line norm made itself. What is written for a dropped record is a probe. If the
 -- line names C_PROBE, the last frame is a probe, since a probe is written last. If it names

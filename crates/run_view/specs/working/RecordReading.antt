@@ -1,20 +1,20 @@
 -- What reading a record and its frames gives (this project's profile). Records and frames are lists
 -- with the newest at the head.
 use Rattle.std.specs.Prelude.{◌≡◌, ◌⊎◌, ℕ, ◌+◌, ◌<◌, Bool, true, false, List, ◌∷◌, ◌++◌, length, map, Option, IfSome}
-use Rattle.edge_io.specs.Faults.{Rose}
+use Rattle.edge_io.specs.FaultCounts.{Rose}
 use Rattle.wire_base.specs.declared.address.Link.{Link}
 use Rattle.pcap_file.specs.declared.head.Head.{Head}
 use Rattle.pcap_file.specs.Records.{Packet}
 use Rattle.pcap_file.specs.Capture.{IsCapture}
-use Rattle.capture_input.specs.Reading.{is_open_in}
+use Rattle.capture_input.specs.ReaderState.{is_open_in}
 use Rattle.rule_book.specs.Entries.{PlainEntry}
 use Rattle.frame_view.specs.Changes.{plain}
-use Rattle.run_view.specs.Judged.{judged_by}
+use Rattle.run_view.specs.working.FirstJudgment.{judged_by}
 use Rattle.run_view.specs.Items.{changes_in, is_only_copy}
-use Rattle.run_view.specs.Contents.{TookFrames}
-use Rattle.run_view.specs.Runs.{IsNoCapture}
-use Rattle.run_view.specs.Readers.{IsBehind, OutputAt}
-use Rattle.run_view.specs.Stops.{Says}
+use Rattle.run_view.specs.working.SourceContents.{TookFrames}
+use Rattle.run_view.specs.RunFiles.{IsNoCapture}
+use Rattle.run_view.specs.working.ReaderPositions.{IsBehind, OutputAt}
+use Rattle.run_view.specs.StopMeanings.{Says}
 use Rattle.run_view.specs.declared.item.Files.{Files}
 use Rattle.run_view.specs.declared.item.Frames.{Frames}
 use Rattle.run_view.specs.declared.item.Gathered.{Gathered}

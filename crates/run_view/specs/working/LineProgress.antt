@@ -8,12 +8,13 @@ use Rattle.pcap_file.specs.declared.head.Head.{Head}
 use Rattle.rule_book.specs.Text.{last_text}
 use Rattle.rule_book.specs.declared.last.Last.TheVariants.{End}
 use Rattle.run_view.specs.Items.{AreItems, Item, lines_of, lines_text}
-use Rattle.run_view.specs.Events.{Event, Shows, chosen_of, events_of}
-use Rattle.run_view.specs.Contents.{AreOver, HasNextLine}
-use Rattle.run_view.specs.Runs.{AreNoRest, FaultCounts, IsNoCapture, IsNoInput, SourceRose, sources_of}
-use Rattle.run_view.specs.ViewerAt.{Ends, ViewerAt, ends_of, turn_in}
-use Rattle.run_view.specs.Stops.{Says}
-use Rattle.run_view.specs.Viewed.{IsStatusOf}
+use Rattle.run_view.specs.ShownEvents.{Event, Shows, chosen_of, events_of}
+use Rattle.run_view.specs.working.SourceContents.{AreOver, HasNextLine}
+use Rattle.run_view.specs.working.RestOfRun.{AreNoRest}
+use Rattle.run_view.specs.RunFiles.{FaultCounts, IsNoCapture, IsNoInput, SourceRose, sources_of}
+use Rattle.run_view.specs.working.ViewerProgress.{Ends, ViewerAt, ends_of, turn_in}
+use Rattle.run_view.specs.StopMeanings.{Says}
+use Rattle.run_view.specs.StatusMeanings.{IsStatusOf}
 use Rattle.run_view.specs.declared.form.Form.{Form}
 use Rattle.run_view.specs.declared.stop.Stop.{Stop}
 use Rattle.run_view.specs.declared.turn.Turn.{Turn}

@@ -2,19 +2,19 @@
 -- project's profile). A source or a list of events that is None is not known; nothing is claimed of
 -- it.
 use Rattle.std.specs.Prelude.{◌≡◌, ◌⊎◌, ℕ, ◌==◌, Bool, true, false, List, Option, Some, None, IfSome, if◌then◌else◌}
-use Rattle.edge_io.specs.Faults.{Rose}
+use Rattle.edge_io.specs.FaultCounts.{Rose}
 use Rattle.pcap_file.specs.declared.head.Head.{Head}
 use Rattle.pcap_file.specs.Capture.{IsCapture}
 use Rattle.capture_input.specs.Inputs.{TookAll}
 use Rattle.run_view.specs.declared.form.Form.{Form}
 use Rattle.run_view.specs.declared.stop.Stop as own
 use Rattle.run_view.specs.declared.words.Asked.{Asked}
-use Rattle.run_view.specs.Events.{Event, Shows, chosen_of, events_of}
+use Rattle.run_view.specs.ShownEvents.{Event, Shows, chosen_of, events_of}
 use Rattle.run_view.specs.Items.{AreItems, Item, frames_of, owed_of, packets_of}
-use Rattle.run_view.specs.Runs.{AreNoRun, FaultCounts, IsNoInput, IsNoOutput, SourceRose, faults_of, report_of, sources_at}
-pub use Rattle.run_view.specs.Runs.{Moment, counts_of, moment_of}
-use Rattle.run_view.specs.Stops.{Says, status_of}
-use Rattle.run_view.specs.Words.{asked_in}
+use Rattle.run_view.specs.RunFiles.{AreNoRun, FaultCounts, IsNoInput, IsNoOutput, SourceRose, faults_of, report_of, sources_at}
+pub use Rattle.run_view.specs.RunFiles.{Moment, counts_of, moment_of}
+use Rattle.run_view.specs.StopMeanings.{Says, status_of}
+use Rattle.run_view.specs.ViewWords.{asked_in}
 
 -- The status of a view to its end, in which this number of records is chosen. With --evidence it is
 -- 11 exactly if there is one, and 0 otherwise; without --evidence it is 0 or 10.
@@ -66,8 +66,3 @@ pub record Stopped (words : List (List ℕ)) (before : Moment) (now : FaultCount
   pub stop : own.Stop
   pub cause : Cause words before now stop
   pub status_is : status ≡ status_of stop
-
--- the line of a stop was printed, and its status is returned; or the output failed; or memory could
--- not be allocated
-abbrev pub Tells : own.Stop → (before now status : ℕ) → Type 0
-Tells stop before now status = (status ≡ status_of stop) ⊎ (((status ≡ 7) × Rose before now) ⊎ (status ≡ 8))

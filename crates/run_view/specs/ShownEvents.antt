@@ -1,9 +1,9 @@
 -- What is shown of a run (this project's profile): a list of events, the oldest first. Lists of
 -- items have the newest at the head.
 use Rattle.std.specs.Prelude.{◌≡◌, ◌≤◌, ℕ, ◌==◌, ◌&&◌, not, Bool, true, false, List, [], ◌∷◌, ◌++◌, length, map, Option, Some, None, Result, Ok, Err, OnOk, if◌then◌else◌}
-use Rattle.edge_io.specs.Faults.{Rose, next_count}
+use Rattle.edge_io.specs.FaultCounts.{Rose, next_count}
 use Rattle.pcap_file.specs.declared.head.Head.{Head}
-use Rattle.view_text.specs.Lines.{PlainLine, plain_line}
+use Rattle.view_text.specs.PlainLines.{PlainLine, plain_line}
 use Rattle.run_view.specs.declared.events.Event as own
 use Rattle.run_view.specs.declared.events.Event.TheVariants.{Record, Chosen}
 use Rattle.run_view.specs.declared.events.Unshown.{Unshown}
@@ -11,7 +11,7 @@ use Rattle.run_view.specs.declared.events.Unshown.TheVariants.{Failed, NoMemory}
 use Rattle.run_view.specs.declared.form.Form.{Form}
 use Rattle.run_view.specs.declared.words.Asked.{Asked}
 use Rattle.run_view.specs.declared.words.Print.TheVariants as prints
-use Rattle.run_view.specs.Chosen.{has_choice, is_chosen}
+use Rattle.run_view.specs.ChosenRecords.{has_choice, is_chosen}
 use Rattle.run_view.specs.Forms.{is_both}
 use Rattle.run_view.specs.Items.{Item, by_first, changes_in, flow_at, frames_of, is_second, kinds_in, length_at, time_of, type_without}
 

@@ -2,11 +2,11 @@
 -- of items have the newest at the head. A source that is None has no known octets; nothing is
 -- claimed of it.
 use Rattle.std.specs.Prelude.{◌≡◌, ◌≢◌, ◌⊎◌, ℕ, List, ◌++◌, Option, Some, None, Ok, IfSome}
-use Rattle.edge_io.specs.Faults.{Rose}
-use Rattle.edge_io.specs.Seen.{Seen, seen_of}
+use Rattle.edge_io.specs.FaultCounts.{Rose}
+use Rattle.edge_io.specs.SeenEnds.{Seen, seen_of}
 use Rattle.wire_base.specs.declared.address.Link.{Link}
 use Rattle.pcap_file.specs.declared.head.Head.{Head}
-use Rattle.pcap_file.specs.Heads.{head_of}
+use Rattle.pcap_file.specs.FileHead.{head_of}
 use Rattle.pcap_file.specs.Records.{Packet}
 use Rattle.pcap_file.specs.Capture.{IsCapture}
 use Rattle.capture_input.specs.Inputs.{BeginsWith, IsInput, Walk}
@@ -86,10 +86,6 @@ pub record AreOfARun (input output report : List ℕ) : Type 0 where
 -- the three sources, where all octets are known, are not those of a finished run
 abbrev pub AreNoRun : Sources → Type 0
 AreNoRun s = (input output report : List ℕ) → s ≡ sources_of (Some input) (Some output) (Some report) → AreOfARun input output report → ⊥
-
--- the same, where the report has been read after its first line
-abbrev pub AreNoRest : Form → Sources → Type 0
-AreNoRest form s = (input output rest : List ℕ) → s ≡ sources_of (Some input) (Some output) (Some rest) → AreOfARun input output (heading form ++ rest) → ⊥
 
 -- the input, where its octets are known, is no capture
 abbrev pub IsNoInput : (input : Option (List ℕ)) → Type 0

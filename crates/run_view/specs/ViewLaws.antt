@@ -1,15 +1,15 @@
 -- Laws of the definitions of a view.
 use Rattle.std.specs.Prelude.{◌≡◌, ◌⊎◌, ℕ, true, List, [], Option, Some, None}
-use Rattle.edge_io.specs.Faults.{Rose}
+use Rattle.edge_io.specs.FaultCounts.{Rose}
 use Rattle.capture_input.specs.Inputs.{IsInput}
 use Rattle.pcap_file.specs.declared.head.Head.{Head}
-use Rattle.run_view.specs.Events.{events_of}
-use Rattle.run_view.specs.Chosen.{chooses_records, has_choice}
+use Rattle.run_view.specs.ShownEvents.{events_of}
+use Rattle.run_view.specs.ChosenRecords.{chooses_records, has_choice}
 use Rattle.run_view.specs.Items.{AreItems, Item, lines_of, packets_of}
-pub use Rattle.run_view.specs.Runs.{AreOfARun}
-use Rattle.run_view.specs.Runs.{FaultCounts, Moment, SourceRose, faults_of, report_of}
-use Rattle.run_view.specs.Viewed.{Stopped}
-use Rattle.run_view.specs.Words.{asked_in}
+pub use Rattle.run_view.specs.RunFiles.{AreOfARun}
+use Rattle.run_view.specs.RunFiles.{FaultCounts, Moment, SourceRose, faults_of, report_of}
+use Rattle.run_view.specs.StatusMeanings.{Stopped}
+use Rattle.run_view.specs.ViewWords.{asked_in}
 use Rattle.run_view.specs.declared.form.Form.{Form}
 use Rattle.run_view.specs.declared.words.Asked.{Asked}
 use Rattle.run_view.specs.declared.words.Print.TheVariants as prints

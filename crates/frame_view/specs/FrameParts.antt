@@ -47,10 +47,6 @@ is_first p = ip.fragment_offset p == 0
 abbrev pub has_tcp_header : (segment : List ℕ) → Bool
 has_tcp_header m = not (tcp.is_short m) && not (tcp.has_bad_header_length m)
 
--- the same as a fact
-abbrev pub HasSegmentHeader : (segment : List ℕ) → Type 0
-HasSegmentHeader m = has_tcp_header m ≡ true
-
 -- the TCP segment (protocol 6) of a packet, where its header can be read
 abbrev pub segment_in : (packet : List ℕ) → Option (List ℕ)
 segment_in p = if (ip.protocol p == 6) && is_first p && has_tcp_header (message_in p) then Some (message_in p) else None

@@ -1,13 +1,14 @@
 -- What a line adds to what is shown of its record, by values of the code (this project's profile).
 use Rattle.std.specs.Prelude.{◌≡◌, ℕ, ◌==◌, ◌&&◌, not, ◌++◌, ◌∷◌, Bool, true, false, List, [], map, Option, Some, None, if◌then◌else◌}
-use Rattle.edge_io.specs.Faults.{next_count}
+use Rattle.edge_io.specs.FaultCounts.{next_count}
 use Rattle.wire_base.specs.declared.address.Link.{Link}
 use Rattle.frame_view.specs.Changes as changes
 use Rattle.rule_book.specs.Entries.{PlainEntry, plain}
-use Rattle.view_text.specs.Lines.{PlainLine, plain_line}
-use Rattle.run_view.specs.Chosen.{either, chooses_records, meets_all, meets_record, met_by}
-use Rattle.run_view.specs.Events.{Event, of_record}
-use Rattle.run_view.specs.Items.{flow_at, length_at, type_without, waits}
+use Rattle.view_text.specs.PlainLines.{PlainLine, plain_line}
+use Rattle.run_view.specs.ChosenRecords.{either, chooses_records, meets_all, meets_record, met_by}
+use Rattle.run_view.specs.ShownEvents.{Event, of_record}
+use Rattle.run_view.specs.Items.{flow_at, length_at, type_without}
+use Rattle.run_view.specs.working.LinePositions.{waits}
 use Rattle.run_view.specs.declared.chosen.Meets.{Meets}
 use Rattle.run_view.specs.declared.item.Gathered.{Gathered}
 use Rattle.run_view.specs.declared.show.Printing.{Printing}

@@ -3,16 +3,17 @@
 -- first, and the same with `_now` what they have at the moment, where it is known.
 use Rattle.std.specs.Prelude.{◌≡◌, ℕ, ◌≤◌, ◌<◌, ◌^◌, ◌*◌, ◌+◌, Bool, true, false, List, [], ◌∷◌, length, map, Option, if◌then◌else◌}
 use Rattle.pcap_file.specs.declared.head.Head.{Head}
-use Rattle.pcap_file.specs.Reading.{Reading}
+use Rattle.pcap_file.specs.ReaderState.{Reading}
 use Rattle.capture_input.specs.declared.input.Input.{Input}
-use Rattle.capture_input.specs.Reading.{head_in}
-use Rattle.view_text.specs.Lines.{plain_line}
-use Rattle.run_view.specs.Chosen.{chooses_records, meets_record, met_of}
-use Rattle.run_view.specs.Events.{Event, Shows, chosen_of, newest_event, record_lines, records_shown}
-use Rattle.run_view.specs.Items.{AreItems, Item, Line, by_first, firsts, frames_of, line_of, owed_of, packets_of, seconds, turn_at, waits}
-use Rattle.run_view.specs.Readers.{InputAt, OutputAt}
-use Rattle.run_view.specs.ShownLines.{due_event}
-use Rattle.run_view.specs.Steps.{Holds, IsReady}
+use Rattle.capture_input.specs.ReaderState.{head_in}
+use Rattle.view_text.specs.PlainLines.{plain_line}
+use Rattle.run_view.specs.ChosenRecords.{chooses_records, meets_record, met_of}
+use Rattle.run_view.specs.ShownEvents.{Event, Shows, chosen_of, newest_event, record_lines, records_shown}
+use Rattle.run_view.specs.Items.{AreItems, Item, Line, by_first, firsts, frames_of, line_of, owed_of, packets_of, seconds}
+use Rattle.run_view.specs.working.LinePositions.{turn_at, waits}
+use Rattle.run_view.specs.working.ReaderPositions.{InputAt, OutputAt}
+use Rattle.run_view.specs.working.ShownLines.{due_event}
+use Rattle.run_view.specs.working.RecordReading.{Holds, IsReady}
 use Rattle.run_view.specs.declared.form.Form.{Form}
 use Rattle.run_view.specs.declared.line.Lines.{Lines}
 use Rattle.run_view.specs.declared.show.Printing.{Printing}

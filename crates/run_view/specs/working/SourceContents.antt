@@ -3,15 +3,16 @@
 use Rattle.std.specs.Prelude.{◌≡◌, ℕ, ◌+◌, List, ◌∷◌, drop, Option, Some, None, Ok, IfSome}
 use Rattle.std.specs.Io.KnownBytes.{Consumes}
 use Rattle.pcap_file.specs.declared.head.Head.{Head}
-use Rattle.pcap_file.specs.Heads.{head_of}
+use Rattle.pcap_file.specs.FileHead.{head_of}
 use Rattle.pcap_file.specs.Records.{Packet}
 use Rattle.pcap_file.specs.Capture.{IsCapture, ReadsTo}
 use Rattle.capture_input.specs.Inputs.{TookAll}
 use Rattle.rule_book.specs.Entries.{PlainEntry}
-use Rattle.rule_book.specs.Reports.{IsEntryOf}
+use Rattle.rule_book.specs.ReportReading.{IsEntryOf}
 use Rattle.run_view.specs.Forms.{version_of}
-use Rattle.run_view.specs.Items.{Item, end_text, frames_of, owed_of, packets_of, text_by, turn_of}
-use Rattle.run_view.specs.Runs.{Sources}
+use Rattle.run_view.specs.Items.{Item, end_text, frames_of, owed_of, packets_of, text_by}
+use Rattle.run_view.specs.working.LinePositions.{turn_of}
+use Rattle.run_view.specs.RunFiles.{Sources}
 use Rattle.run_view.specs.declared.form.Form.{Form}
 use Rattle.run_view.specs.declared.turn.Turn.{Turn}
 

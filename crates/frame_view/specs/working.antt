@@ -1,0 +1,2 @@
+pub mod SegmentHeaders
+pub mod ReadingShapes

@@ -1,0 +1,16 @@
+pub mod LinePositions
+pub mod FirstJudgment
+pub mod JsonWords
+pub mod PlainWords
+pub mod FrontLine
+pub mod LineContents
+pub mod RestOfRun
+pub mod StopCauses
+pub mod SourceContents
+pub mod ReaderPositions
+pub mod RecordReading
+pub mod ShownLines
+pub mod ViewerProgress
+pub mod LinesAhead
+pub mod LineProgress
+pub mod StopLines
