@@ -1,13 +1,9 @@
-//! Tests of one record by an engine, of the segments of connections one after another, of two
-//! engines in sequence, and of the relay that writes the output.
+//! Tests of one record by an engine, of two engines in sequence, and of the relay that writes the
+//! output.
 #![tactic(auto)]
 
 #[cfg(test)]
 mod both;
-#[cfg(test)]
-mod connection_rows;
-#[cfg(test)]
-mod connections;
 #[cfg(test)]
 mod engine;
 #[cfg(test)]

@@ -1,7 +1,7 @@
 //! Records by one engine and by two, in worked cases: the frames written, and the lines.
 ghost use Rattle.std.specs.Prelude.{◌≡◌};
 ghost use Rattle.wire_base.specs.declared.address.Link.TheVariants.{Raw};
-ghost use Rattle.both_sides.specs.Relays.{link_of};
+ghost use Rattle.both_sides.specs.RelayState.{link_of};
 
 use crate::packets::{ABCD, ABXD, ACK, PROBE, RESET, SYN, SYN_ACK};
 use crate::settings::{Chosen, STANDARD, settings};

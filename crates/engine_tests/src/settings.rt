@@ -1,6 +1,6 @@
 //! Settings of engines.
 ghost use Rattle.std.specs.Prelude.{◌≡◌, false};
-ghost use Rattle.norm_settings.specs.Settings.{plain_settings, AreInRange, GoTogether};
+ghost use Rattle.norm_settings.specs.SettingValues.{plain_settings, AreInRange, GoTogether};
 
 use arrayvec::ArrayVec;
 use norm_settings::Settings;

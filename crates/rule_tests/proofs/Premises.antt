@@ -8,7 +8,7 @@ use Rattle.receiver_model.specs.declared.member.Member.{Member}
 use Rattle.receiver_model.specs.Offsets.{Names, Carries, Ends}
 use Rattle.receiver_model.specs.Delivery.{Receiver, Reads, Extends, Step, InTime, Delivers, DeliversInTime, beginning}
 use Rattle.receiver_model.specs.Monitors.{Keeps, HasDeliveredAll, TakesAndDelivers, TakesInOrder, MonitorsInOrder, Covers, CoversEach}
-use Rattle.rule_tests.specs.Premises.{TakesBy, EachPremiseIsNeeded}
+use Rattle.rule_tests.specs.working.MonitorPremises.{TakesBy, EachPremiseIsNeeded}
 use Rattle.rule_tests.proofs.TwoPackets.{bc, xy, said, bc_says, xy_says, frames, places, acks, first, tells, stays}
 
 -- two octets that wait at the offsets 0 and 1

@@ -7,7 +7,7 @@ use Rattle.wire_base.specs.Tcp as tcp
 use Rattle.wire_base.specs.Plain.{Plain}
 use Rattle.wire_base.specs.Segments.{Segment, segment_of}
 use Rattle.receiver_model.specs.Offsets.{IsPlace}
-use Rattle.receiver_model.specs.Agreement.{OctetAt, FinAt, HasSynBefore, TellOneStream}
+use Rattle.receiver_model.specs.FamilyAgreement.{OctetAt, FinAt, HasSynBefore, TellOneStream}
 use Rattle.receiver_model.specs.Monitors.{StayNearAcks}
 
 -- ---- the packets, as in the tests of receivers

@@ -1,1 +1,1 @@
-pub mod Premises
+pub mod working

@@ -1,8 +1,8 @@
 //! Frames that are cut, whose expected segments are worked out by hand.
 ghost use Rattle.std.specs.Prelude.{◌≡◌, ◌≤◌, ◌==◌, ◌&&◌, not, length, drop, IsTrue, IfOk, None};
 ghost use Rattle.tcp_codec.specs.declared.header.SumRule.TheVariants.{Skip};
-ghost use Rattle.tcp_codec.specs.Header.{fault_of};
-ghost use Rattle.emit_mtu.specs.Frames.{IsSent, IsWhole};
+ghost use Rattle.tcp_codec.specs.HeaderFields.{fault_of};
+ghost use Rattle.emit_mtu.specs.FrameParts.{IsSent, IsWhole};
 ghost use Rattle.wire_base.specs.declared.limits.TheConstants.{MAX_LINK};
 
 use arrayvec::ArrayVec;

@@ -1,5 +1,5 @@
 //! Laws that need worked packets.
-ghost use Rattle.rule_tests.specs.Premises.{EachPremiseIsNeeded};
+ghost use Rattle.rule_tests.specs.working.MonitorPremises.{EachPremiseIsNeeded};
 
 /// Proves that a monitor may miss something if one of these premises is left out. It hears each
 /// frame, keeps each octet, delivers all that it can, and has the start of the other receiver; and

@@ -1,7 +1,8 @@
 //! The notation of packets in test cases: `> PA 1000,5001 abcd [ttl=1 id=7]`.
 //!
 //! - `>` for an inbound packet and `<` for an outbound one.
-//! - The first letters of the TCP flags, or another protocol: `UDP`, `ICMP` or `IGMP`.
+//! - The first letters of the TCP flags, or another protocol: `UDP`, `ICMP` or `IGMP`. After `RAW`
+//!   all octets of the record follow.
 //! - With TCP flags, the sequence number and, after a comma, the acknowledgment number.
 //! - The payload, if any; of another protocol all octets after the IPv4 header.
 //! - In brackets the fields that differ from those of most packets, by the names in `MARKS`.
@@ -33,7 +34,7 @@ const MARKS: [&str; 18] = [
 
 /// Names of octets that several cases have.
 #[rattlefmt::skip]
-const NAMED: [(&str, &str); 6] = [
+const NAMED: [(&str, &str); 10] = [
     // UDP (RFC 768) without a checksum; the same with another first octet of the payload; with a
     // right checksum; with a wrong one.
     ("$PLAIN", "0x9c40003500180000+a*16"),
@@ -43,9 +44,15 @@ const NAMED: [(&str, &str); 6] = [
     // ICMP (RFC 792): port unreachable, with a quoted segment from 10.0.0.1 port 80 to 198.51.100.7
     // port 40000.
     ("$UNREACHABLE", "0x0300606f00000000+0x4500001c00010000400646a00a000001c633640700509c4000000000"),
+    // The same error, with a quoted segment of the other direction.
+    ("$QUOTING", "0x0300606f00000000+0x4500001c00010000400646a0c63364070a0000019c40005000000000"),
     // Options of a SYN: maximum segment size, SACK permitted, timestamps, window scale (RFC 9293,
     // RFC 2018, RFC 7323).
     ("$OFFERED", "0x020405b4+0x0402+0x080a0000000100000000+0x01+0x030307"),
+    // A window scale of 7, and timestamps of 9 and 5 (RFC 7323).
+    ("$SCALE7", "0x01030307"),
+    ("$STAMP9", "0x0101080a0000000900000000"),
+    ("$STAMP5", "0x0101080a0000000500000000"),
 ];
 
 /// The parts of a packet's line.
@@ -88,6 +95,11 @@ impl<'a> Packet<'a> {
             payload,
             marks,
         })
+    }
+
+    /// Returns whether the line has all octets of a record.
+    pub(crate) fn is_raw(&self) -> bool {
+        self.kind == "RAW"
     }
 
     /// Returns the value of a mark, empty if the mark has none; None if the line has no such mark.
@@ -159,6 +171,8 @@ fn protocol_of(kind: &str) -> u8 {
         "ICMP" => protocol::ICMP,
         "IGMP" => 2,
         "UDP" => protocol::UDP,
+        // No protocol: the octets may be no packet.
+        "RAW" => 255,
         _ => protocol::TCP,
     }
 }

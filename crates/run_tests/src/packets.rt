@@ -196,9 +196,13 @@ fn add_fragment(octets: &mut Vec<u8>, packet: &Packet<'_>, payload: &[u8]) -> Re
 // A function that owns a list is slow to prove at each `?`, so the functions above append to one.
 /// Returns the octets of a packet, and those after it.
 fn octets_of(alloc: Global, packet: &Packet<'_>) -> Result<Vec<u8>, Fail> {
+    let mut octets = Vec::new(alloc);
+    if packet.is_raw() {
+        add_octets(&mut octets, packet.payload)?;
+        return Ok(octets);
+    }
     let mut payload = Vec::new(alloc);
     add_payload(&mut payload, packet)?;
-    let mut octets = Vec::new(alloc);
     add_fragment(&mut octets, packet, &payload)?;
     Ok(octets)
 }
@@ -206,6 +210,15 @@ fn octets_of(alloc: Global, packet: &Packet<'_>) -> Result<Vec<u8>, Fail> {
 /// Returns the octets of the packet of one line.
 pub(crate) fn packet_octets(alloc: Global, line: &str) -> Result<Vec<u8>, Fail> {
     octets_of(alloc, &Packet::read(line.trim())?)
+}
+
+/// Returns the file header of a capture of raw IP or of Ethernet.
+pub(crate) fn head_of(ethernet: bool) -> [u8; 24] {
+    let mut head = HEAD;
+    if ethernet {
+        head[20] = 1;
+    }
+    head
 }
 
 /// Appends a record with a frame: a link header and a packet.
@@ -223,69 +236,36 @@ fn add_record(
     file.extend_from_slice(octets)
 }
 
-/// Appends a record of the packet of a line.
-fn add_packet(file: &mut Vec<u8>, alloc: Global, line: &str) -> Result<(), Fail> {
+/// Appends a record of the packet of a line, after an Ethernet header (RFC 894) if so asked.
+pub(crate) fn add_packet(
+    file: &mut Vec<u8>,
+    alloc: Global,
+    line: &str,
+    ethernet: bool,
+) -> Result<(), Fail> {
     let packet = Packet::read(line.trim())?;
-    let seconds = packet.number("t", 0)?;
-    let octets = octets_of(alloc, &packet)?;
-    Ok(add_record(file, seconds, &[], &octets)?)
-}
-
-/// Appends records of packets; `;` separates their lines.
-fn add_packets(file: &mut Vec<u8>, alloc: Global, packets: &str) -> Result<(), Fail> {
-    if packets.is_empty() {
-        return Ok(());
-    }
-    for line in packets.split(';') {
-        add_packet(file, alloc, line)?;
-    }
-    Ok(())
-}
-
-/// Returns a raw IP capture of the packets `first` and then those of `then`.
-pub fn capture_of(alloc: Global, first: &str, then: &str) -> Result<Vec<u8>, Fail> {
-    let mut file = Vec::from_slice(alloc, &HEAD)?;
-    add_packets(&mut file, alloc, first)?;
-    add_packets(&mut file, alloc, then)?;
-    Ok(file)
-}
-
-/// Appends a record of the packet of a line, after an Ethernet header (RFC 894).
-fn add_frame(file: &mut Vec<u8>, alloc: Global, line: &str) -> Result<(), Fail> {
-    let packet = Packet::read(line.trim())?;
-    let source = packet.octet("mac", 0)?;
+    let (seconds, source) = (packet.number("t", 0)?, packet.octet("mac", 0)?);
     let link = [2, 0, 0, 0, 0, 1, 2, 0, 0, 0, 0, source, 8, 0];
+    let size = if ethernet { link.len() } else { 0 };
     let octets = octets_of(alloc, &packet)?;
-    Ok(add_record(file, 0, &link, &octets)?)
+    Ok(add_record(file, seconds, &link[..size], &octets)?)
 }
 
-/// Returns an Ethernet capture of packets.
-pub fn framed_capture(alloc: Global, packets: &str) -> Result<Vec<u8>, Fail> {
-    let mut head = HEAD;
-    head[20] = 1;
-    let mut file = Vec::from_slice(alloc, &head)?;
-    for line in packets.split(';') {
-        add_frame(&mut file, alloc, line)?;
-    }
-    Ok(file)
-}
-
-/// Returns whether a packet is an inbound segment from port 40000.
+/// Returns whether the packet is an inbound segment from port 40000.
 fn is_inward(packet: &Packet<'_>) -> Result<bool, Fail> {
     let own = packet.inward && packet.protocol == protocol::TCP;
     Ok(packet.number("port", 40_000)? == 40_000 && own)
 }
 
-/// Appends those of the packets that are inbound segments from port 40000.
-pub fn add_inward(list: &mut Vec<Vec<u8>>, alloc: Global, packets: &str) -> Result<(), Fail> {
-    if packets.is_empty() {
-        return Ok(());
-    }
-    for line in packets.split(';') {
-        let packet = Packet::read(line.trim())?;
-        if is_inward(&packet)? {
-            list.push(octets_of(alloc, &packet)?)?;
-        }
+/// Appends the packet of a line if it is an inbound segment from port 40000.
+pub(crate) fn add_inward_packet(
+    list: &mut Vec<Vec<u8>>,
+    alloc: Global,
+    line: &str,
+) -> Result<(), Fail> {
+    let packet = Packet::read(line.trim())?;
+    if is_inward(&packet)? {
+        list.push(octets_of(alloc, &packet)?)?;
     }
     Ok(())
 }

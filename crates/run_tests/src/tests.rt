@@ -1,5 +1,5 @@
 //! Whole runs, with expected octets from the formats' standards and worked captures.
-use crate::rows::{SEEDS, words_of};
+use crate::cases::{SEEDS, words_of};
 use crate::runs::{
     Changes, HEAD, NONE, Outcome, RECORD_HEADER, UDP_MESSAGE, capture_file, change, ends, line,
     sink_of, source_of, words_in,
@@ -9,17 +9,17 @@ use edge_io::{Failed, Sink};
 use std::alloc::{AllocError, Global};
 use std::test::Fail;
 
-mod both;
-mod connections;
-mod cut;
-mod evasions;
+mod arp;
 mod expected;
+mod files;
 mod forms;
-mod fragments;
 mod loads;
 mod sections;
+mod spelled;
 mod stopped;
+mod streams;
 mod waiting;
+mod worked;
 
 /// A test case. A capture of UDP messages: changes of its file header, its number of records,
 /// changes of the last record header, and its size. The calls that fail; the status, the report,

@@ -1,6 +1,5 @@
 //! The expected outputs of a disturbed run, computed from the outputs of the undisturbed run.
-use crate::packets::capture_of;
-use crate::rows::{Before, words_of};
+use crate::cases::{capture_of, words_of};
 use crate::runs::{line, sink_of, source_of, status_of};
 use std::alloc::Global;
 use std::test::Fail;
@@ -8,7 +7,6 @@ use std::test::Fail;
 /// The options of a run, and the packets of its capture.
 pub(super) struct Case {
     pub(super) options: &'static str,
-    pub(super) before: Before,
     pub(super) packets: &'static str,
 }
 
@@ -119,7 +117,7 @@ fn marks_of(alloc: Global, file: &[u8], capture: &[u8], report: &[u8]) -> Result
 pub(super) fn undisturbed_run(alloc: Global, case: &Case) -> Result<Undisturbed, Fail> {
     let words = words_of(alloc, case.options, "")?;
     let words = line(alloc, &words)?;
-    let file = capture_of(alloc, case.before.packets, case.packets)?;
+    let file = capture_of(alloc, case.packets)?;
     let (capture, report) = outputs_of(alloc, &words, &file)?;
     let marks = marks_of(alloc, &file, &capture, &report)?;
     Ok(Undisturbed {

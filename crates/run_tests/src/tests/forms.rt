@@ -1,6 +1,6 @@
 //! Captures of each byte order, time unit and link type.
 use super::WORDS;
-use crate::rows::{SEEDS, words_of};
+use crate::cases::{SEEDS, words_of};
 use crate::runs::{NONE, Outcome, ends};
 use std::alloc::{AllocError, Global};
 use std::test::Fail;

@@ -1,6 +1,6 @@
 //! pcapng captures with two interfaces, `in` and `ex`: with `--inside` the side of a packet is that
 //! of its interface, not that of its addresses.
-use crate::rows::{SEEDS, words_of};
+use crate::cases::{SEEDS, words_of};
 use crate::runs::{NONE, Outcome, RECORD_HEADER, UDP_MESSAGE, capture_file, ends};
 use std::alloc::{AllocError, Global};
 use std::test::Fail;

@@ -2,7 +2,6 @@
 //! full.
 use super::expected::{Case, End, Expected, Undisturbed, undisturbed_run};
 use super::{Stuck, WORDS};
-use crate::rows::{OPENED, REQUEST};
 use crate::runs::{NONE, Outcome, capture_file, ends, line, sink_of, source_of, status_of};
 use bridge_run::run;
 use edge_io::{Sink, Source, read_full};
@@ -12,16 +11,15 @@ use std::test::Fail;
 /// A whole connection.
 const CONNECTION: &[Case] = &[Case {
     options: "",
-    before: REQUEST,
-    packets: "",
+    packets: "request",
 }];
 
 #[rattlefmt::skip]
 const OTHERS: &[Case] = &[
     // The same connection through two engines.
-    Case { options: "--both", before: REQUEST, packets: "" },
+    Case { options: "--both", packets: "request" },
     // A frame that is cut into three segments, one that is too long, and one that passes.
-    Case { options: "--mtu=576", before: OPENED, packets: "> PA 1000,5001 a*1100; < PA 5001,1000 a*537 [urg=1]; < A 5001,2100" },
+    Case { options: "--mtu=576", packets: "opened\n> PA 1000,5001 a*1100\n< PA 5001,1000 a*537 [urg=1]\n< A 5001,2100" },
 ];
 
 /// A disturbance of a run: the most octets that a call of the source returns, the calls that fail,

@@ -1,13 +1,13 @@
 use Rattle.std.proofs.Common.{◌≡◌, ℕ, ◌==◌, ◌&&◌, not, true, List, length, drop, Option, Some, None, Ok, refl, sym, ap, ◌∙◌}
 use Rattle.std.proofs.lemmas.Bool.{eqb-true, not-true, and_parts}
-use Rattle.wire_base.specs.Reading.{value_or_fault}
+use Rattle.wire_base.specs.ParseResults.{value_or_fault}
 use Rattle.wire_base.specs.Ipv4 as ip
 use Rattle.ipv4_codec.specs.declared.header.Ipv4.{Ipv4}
 use Rattle.ipv4_codec.specs.declared.header.IpFault.{IpFault}
-use Rattle.ipv4_codec.specs.Header as ip_header
+use Rattle.ipv4_codec.specs.HeaderFields as ip_header
 use Rattle.tcp_codec.specs.declared.header.SumRule.TheVariants.{Skip}
-use Rattle.tcp_codec.specs.Header as tcp_header
-use Rattle.emit_mtu.specs.Frames.{IsWhole}
+use Rattle.tcp_codec.specs.HeaderFields as tcp_header
+use Rattle.emit_mtu.specs.FrameParts.{IsWhole}
 use Rattle.emit_mtu.proofs.Frames.{payload_is, not_one}
 use Rattle.rule_tests.proofs.cuts.is_whole.Goals as goal
 

@@ -3,7 +3,7 @@ use Rattle.std.specs.Prelude.{◌≡◌, ℕ, ◌≤◌, ◌^◌, Bool, List, []
 use Rattle.wire_base.specs.Segments.{Segment}
 use Rattle.receiver_model.specs.declared.member.Member.{Member}
 use Rattle.receiver_model.specs.Delivery.{Receiver, Reads, Step, Delivers, beginning}
-use Rattle.receiver_model.specs.Agreement.{IsMember, TellOneStream}
+use Rattle.receiver_model.specs.FamilyAgreement.{IsMember, TellOneStream}
 use Rattle.receiver_model.specs.Monitors.{Keeps, HasDeliveredAll, MonitorsInOrder, Covers, CoversEach, StayNearAcks}
 
 -- this holds for all frames that describe one stream and whose octets and FINs are near what was
