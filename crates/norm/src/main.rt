@@ -3,11 +3,10 @@
 #![tactic(auto)]
 
 mod files;
-mod texts;
 
 use bridge_run::run;
 use edge_io::{FileSink, FileSource, LineOut};
-use error_line::{Program, STANDARD_OUTPUT, Why, failed, last_line, tell};
+use error_line::{NORM_HELP, NORM_VERSION, Program, STANDARD_OUTPUT, Why, failed, last_line, tell};
 use files::Opened;
 use norm_settings::{Command, Names, WordFault, read_words};
 use std::alloc::AllocError;
@@ -17,8 +16,8 @@ use std::process::ExitCode;
 
 const PROGRAM: Program = Program {
     name: "norm",
-    help: texts::HELP,
-    version: texts::VERSION,
+    help: NORM_HELP,
+    version: NORM_VERSION,
     memory: "stop memory 0\n",
 };
 
