@@ -13,14 +13,14 @@ use Rattle.wire_base.specs.Ipv4 as ip
 use Rattle.wire_base.specs.Plain.{IsPlainHeader}
 use Rattle.wire_base.specs.Frames.{packet_in}
 use Rattle.pcap_file.specs.Records.{Packet}
-use Rattle.ipv4_codec.specs.Header.{fields_of}
+use Rattle.ipv4_codec.specs.HeaderFields.{fields_of}
 use Rattle.rule_book.specs.declared.rule.Rule.{Rule}
-use Rattle.norm_settings.specs.Settings.{PlainSettings}
+use Rattle.norm_settings.specs.SettingValues.{PlainSettings}
 use Rattle.ipv4_codec.proofs.PlainHeaders.{header-plain}
-use Rattle.ipv4_codec.specs.Write.{plain_header}
+use Rattle.ipv4_codec.specs.WrittenHeader.{plain_header}
 use Rattle.wire_base.proofs.Octets.{four-octets}
 use Rattle.ip_rules.specs.Datagrams.{Datagram, DatagramsAreKnown, AreOctets, HasSizes, IsKnown, IsPacketOf, goes_in, datagram_of, as_read, AnewIsPacket, head_sent}
-use Rattle.ip_rules.specs.Rows.{carries_ip, side_in, is_inward, holds_in, holds_ip, packet_drop_rows, ip_drop_rows, whole_fix_rows, ip_dropped_by, ip_fixes}
+use Rattle.ip_rules.specs.RuleRows.{carries_ip, side_in, is_inward, holds_in, holds_ip, packet_drop_rows, ip_drop_rows, whole_fix_rows, ip_dropped_by, ip_fixes}
 use Rattle.ip_rules.proofs.Lists.{two_below, four_below, taken, dropped, behind_long, none_found, none_named}
 
 -- The datagram of a record that no rule drops.

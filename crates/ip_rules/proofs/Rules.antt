@@ -11,23 +11,24 @@ use Rattle.wire_base.specs.Frames.{kind_of, packet_in, ethertype}
 use Rattle.pcap_file.specs.Records.{Packet}
 use Rattle.rule_book.specs.declared.rule.Rule.{Rule}
 use Rattle.rule_book.specs.declared.rule.Rule.TheVariants as rules
-use Rattle.wire_base.specs.Reading.{value_or_fault}
+use Rattle.wire_base.specs.ParseResults.{value_or_fault}
 use Rattle.wire_base.specs.declared.address.Side.{Side}
 use Rattle.wire_base.specs.Ipv4 as ip
 use Rattle.ipv4_codec.specs.declared.header.Ipv4.{Ipv4}
 use Rattle.ipv4_codec.specs.declared.header.IpFault.{IpFault}
 use Rattle.ipv4_codec.specs.declared.header.IpFault.TheVariants as faults
-use Rattle.ipv4_codec.specs.Header.{fields_of, fault_of, parsed}
-use Rattle.ipv4_codec.specs.Options.{facts_of}
-use Rattle.ipv4_codec.specs.declared.option_area.OptionFacts.{OptionFacts}
-use Rattle.ipv4_codec.specs.declared.option_area.BadOption.{BadOption}
-use Rattle.norm_settings.specs.Settings.{PlainSettings}
+use Rattle.ipv4_codec.specs.HeaderFields.{fields_of, fault_of, parsed}
+use Rattle.ipv4_codec.specs.OptionFacts.{facts_of}
+use Rattle.ipv4_codec.specs.declared.header.OptionFacts.{OptionFacts}
+use Rattle.ipv4_codec.specs.declared.header.BadOption.{BadOption}
+use Rattle.norm_settings.specs.SettingValues.{PlainSettings}
 use Rattle.norm_settings.specs.Side.{side}
-use Rattle.ip_rules.specs.Rows.{l_snap, carries_ip, carries_arp, side_in, is_inward, i_src, i_dst, tells_side, i_ttl, piece_fix_rows, whole_fix_rows, i_trail, i_opt, i_res, i_opt_bad, i_route, p_proto, l_short, l_type, holds_in, packet_drop_rows, ip_dropped_by, ip_fixes}
-use Rattle.ip_rules.specs.Judged.{link_row, rule_of, side_or_row, content_row, packet_row, packet_fixes, header_fixes, where_holds, IsRead, IsJudged, IsJudgedIn}
-use Rattle.ip_rules.specs.declared.judged.IpPacket.{IpPacket}
-use Rattle.ip_rules.specs.declared.judged.IpJudged.{IpJudged}
-use Rattle.ip_rules.specs.declared.judged.IpJudged.TheVariants.{Arp, Drop, Piece, Whole}
+use Rattle.ip_rules.specs.RuleRows.{l_snap, carries_ip, carries_arp, side_in, is_inward, i_src, i_dst, tells_side, i_ttl, piece_fix_rows, whole_fix_rows, i_trail, i_opt, i_res, i_opt_bad, i_route, p_proto, l_short, l_type, holds_in, packet_drop_rows, ip_dropped_by, ip_fixes}
+use Rattle.ip_rules.specs.working.LayerResults.{link_row, rule_of, side_or_row, content_row, packet_row, packet_fixes, header_fixes, IsJudgedIn}
+use Rattle.ip_rules.specs.JudgedRecord.{where_holds, IsRead, IsJudged}
+use Rattle.ip_rules.specs.declared.rows.IpPacket.{IpPacket}
+use Rattle.ip_rules.specs.declared.rows.IpJudged.{IpJudged}
+use Rattle.ip_rules.specs.declared.rows.IpJudged.TheVariants.{Arp, Drop, Piece, Whole}
 
 -- The rules on the link, by the kind of packet that the frame carries.
 

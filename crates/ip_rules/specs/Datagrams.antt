@@ -6,15 +6,15 @@ use Rattle.wire_base.specs.declared.address.Side.{Side}
 use Rattle.wire_base.specs.Ipv4 as ip
 use Rattle.wire_base.specs.Plain.{IsPlainHeader}
 use Rattle.pcap_file.specs.Records as records
-use Rattle.ipv4_codec.specs.Header.{fields_of}
+use Rattle.ipv4_codec.specs.HeaderFields.{fields_of}
 use Rattle.wire_base.specs.declared.address.Side.TheVariants.{Inward, Outward}
 use Rattle.wire_base.specs.Frames.{packet_in}
 use Rattle.ipv4_codec.specs.declared.header.Ipv4.{Ipv4}
-use Rattle.ipv4_codec.specs.Write.{plain_header}
+use Rattle.ipv4_codec.specs.WrittenHeader.{plain_header}
 use Rattle.rule_book.specs.declared.rule.Rule.{Rule}
-use Rattle.norm_settings.specs.Settings.{PlainSettings}
-use Rattle.ip_rules.specs.declared.judged.IpPacket.{IpPacket}
-use Rattle.ip_rules.specs.Rows.{carries_ip, side_in, whole_fix_rows, ip_dropped_by, ip_fixes}
+use Rattle.norm_settings.specs.SettingValues.{PlainSettings}
+use Rattle.ip_rules.specs.declared.rows.IpPacket.{IpPacket}
+use Rattle.ip_rules.specs.RuleRows.{carries_ip, side_in, whole_fix_rows, ip_dropped_by, ip_fixes}
 use Rattle.wire_base.specs.declared.limits.TheConstants.{MAX_PAYLOAD}
 
 -- A whole datagram, of one packet or reassembled from fragments. It has its side, the fields of its

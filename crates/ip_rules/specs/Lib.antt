@@ -1,3 +1,4 @@
-pub mod Rows
+pub mod RuleRows
 pub mod Datagrams
-pub mod Judged
+pub mod JudgedRecord
+pub mod working

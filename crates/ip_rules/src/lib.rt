@@ -10,10 +10,8 @@
 //! routers.
 #![tactic(auto)]
 
-pub mod judged;
 pub mod laws;
 pub mod rows;
 pub mod write;
 
-pub use judged::{Fixes, IpJudged, IpKind, IpPacket};
-pub use rows::{judge_ip, judge_ip_into};
+pub use rows::{Fixes, IpJudged, IpKind, IpPacket, has_low_ttl, judge_ip, judge_ip_into};

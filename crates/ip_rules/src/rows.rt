@@ -1,18 +1,89 @@
-//! The rules on the link, the IPv4 header and the protocol, in the order of their numbers.
+//! The rules on the link, the IPv4 header and the protocol, in the order of their numbers, and what
+//! they make of a record.
 ghost use Rattle.std.specs.Prelude.{◌≡◌, ◌+◌, ◌<◌, ◌≤◌, ◌++◌, ◌&&◌, ◌||◌, ◌==◌, nat_lt, nat_le, All, length, Option, Some, None};
 ghost use Rattle.wire_base.specs.Ipv4 as ip;
-ghost use Rattle.ipv4_codec.specs.Header.{fields_of};
-ghost use Rattle.norm_settings.specs.Settings.{PlainSettings, plain_settings};
-ghost use Rattle.pcap_file.specs.Reads.{shown};
-ghost use Rattle.ip_rules.specs.Rows as table;
-ghost use Rattle.ip_rules.specs.Judged as spec;
+ghost use Rattle.ipv4_codec.specs.HeaderFields.{fields_of};
+ghost use Rattle.norm_settings.specs.SettingValues.{PlainSettings, plain_settings};
+ghost use Rattle.pcap_file.specs.RecordReading.{shown};
+ghost use Rattle.ip_rules.specs.RuleRows as table;
+ghost use Rattle.ip_rules.specs.Datagrams.{goes_in};
+ghost use Rattle.ip_rules.specs.JudgedRecord as spec;
+ghost use Rattle.ip_rules.specs.working.LayerResults as working;
 
-use crate::judged::{Fixes, IpJudged, IpKind, IpPacket};
+use arrayvec::ArrayVec;
 use ipv4_codec::{IpFault, Ipv4, options, parse_into};
 use norm_settings::{Settings, side_of};
 use pcap_file::Record;
 use rule_book::Rule;
 use wire_base::{Addr, FrameKind, Link, MAX_FRAME, Side, frame_kind, protocol};
+
+/// The fix rules that apply to a packet, in the order of their numbers.
+pub type Fixes = ArrayVec<Rule, 16>;
+
+/// A packet that no rule on the link, the header or the protocol drops.
+#[derive(Debug, Drop)]
+pub struct IpPacket<'a> {
+    pub side: Side,
+    /// The fields of its header, as captured.
+    pub head: Ipv4,
+    /// The whole frame as it was captured: link octets, header, payload and the octets after it.
+    pub frame: &'a [u8],
+    /// The octets from the header's end to the total length.
+    pub payload: &'a [u8],
+    pub fixes: Fixes,
+}
+
+impl<'a> IpPacket<'a> {
+    ghost use Rattle.std.specs.Prelude.{◌≡◌, []};
+
+    /// Returns a packet of this frame that is to be filled in.
+    pub fn unread(frame: &'a [u8]) -> IpPacket<'a>
+        ensures frame { result.frame.now ≡ frame.now }
+        ensures fixes { result.fixes.items ≡ [] }
+    {
+        IpPacket {
+            side: Side::Inward,
+            head: Ipv4::default(),
+            frame,
+            payload: frame,
+            fixes: Fixes::new(),
+        }
+    }
+}
+
+/// The result of judging a record whose packet the caller keeps.
+#[derive(Clone, Copy, Debug)]
+pub enum IpKind {
+    /// ARP that no rule on the link drops.
+    Arp,
+    /// The rule that drops the record, and, from I_OPT_BAD on, the side.
+    Drop(Option<Side>, Rule),
+    /// A fragment. I_TTL is judged for its whole datagram only.
+    Piece,
+    /// A packet that is no fragment.
+    Whole,
+}
+
+/// The result of judging a record.
+#[derive(Debug, Drop)]
+pub enum IpJudged<'a> {
+    /// ARP that no rule on the link drops.
+    Arp,
+    /// The rule that drops the record, and, from I_OPT_BAD on, the side. The side is None under the
+    /// rules 1 to 11.
+    Drop(Option<Side>, Rule),
+    /// A fragment. I_TTL is judged for its whole datagram only.
+    Piece(IpPacket<'a>),
+    /// A packet that is no fragment.
+    Whole(IpPacket<'a>),
+}
+
+/// The result of the rules on the link.
+enum Linked<'a> {
+    Row(Rule),
+    Arp,
+    Packet(&'a [u8]),
+}
 
 /// Judges a record by the first rule on the link, the header or the protocol that holds. Rules 1 to
 /// 14, and 41 to 44 if none of these drops the record.
@@ -48,16 +119,20 @@ pub fn judge_ip_into<'a>(
     }
 }
 
-/// The result of the rules on the link.
-enum Linked<'a> {
-    Row(Rule),
-    Arp,
-    Packet(&'a [u8]),
+/// Returns whether I_TTL applies to a datagram in this direction: it goes inwards, and its TTL does
+/// not pass `hops` routers.
+pub fn has_low_ttl(hops: u8, side: Side, ttl: u8) -> bool
+    ensures { result ≡ (goes_in side && nat_le ttl hops) }
+{
+    match side {
+        Side::Inward => ttl <= hops,
+        Side::Outward => false,
+    }
 }
 
 // Judges a record by the rules on the link.
 fn judge_link<'a>(link: Link, input: &Record<'a>) -> Linked<'a>
-    ensures { spec.IsLinked link (shown input.now) result }
+    ensures { working.IsLinked link (shown input.now) result }
 {
     if is_snapped(input) {
         return Linked::Row(Rule::LSnap);
@@ -90,7 +165,7 @@ fn judge_packet<'a>(
     packet: &mut IpPacket<'a>,
 ) -> IpKind
     requires { All (λ prefix. prefix.len ≤ 32) settings.now.prefixes.items }
-    ensures { spec.IsJudgedIn (plain_settings settings.now) given frame.now octets.now (spec.judged_with packet.new result) }
+    ensures { working.IsJudgedIn (plain_settings settings.now) given frame.now octets.now (spec.judged_with packet.new result) }
 {
     if let Err(fault) = parse_into(octets, &mut packet.head) {
         return IpKind::Drop(None, rule_of(fault));
@@ -113,8 +188,8 @@ fn read_packet<'a>(hops: u8, octets: &'a [u8], packet: &mut IpPacket<'a>) -> IpK
     requires fields { packet.old.head ≡ fields_of octets.now }
     requires order { packet.old.head.header ≤ packet.old.head.total }
     requires inside { packet.old.head.total ≤ length octets.now }
-    ensures { (settings : PlainSettings) (given : Option Side) → settings.hops ≡ hops → spec.packet_row settings given octets.now ≡ None → table.side_in settings given octets.now ≡ Some packet.old.side →
-        spec.IsJudgedIn settings given packet.old.frame.now octets.now (spec.judged_with packet.new result) }
+    ensures { (settings : PlainSettings) (given : Option Side) → settings.hops ≡ hops → working.packet_row settings given octets.now ≡ None → table.side_in settings given octets.now ≡ Some packet.old.side →
+        working.IsJudgedIn settings given packet.old.frame.now octets.now (spec.judged_with packet.new result) }
 {
     packet.payload = payload_of(&packet.head, octets);
     fill_fixes(&packet.head, octets, &mut packet.fixes);
@@ -134,7 +209,7 @@ fn is_fragment(head: &Ipv4) -> bool
 
 // Returns the rule of a fault of the header.
 fn rule_of(fault: IpFault) -> Rule
-    ensures { result ≡ spec.rule_of fault }
+    ensures { result ≡ working.rule_of fault }
 {
     match fault {
         IpFault::Short => Rule::IShort,
@@ -149,7 +224,7 @@ fn rule_of(fault: IpFault) -> Rule
 // is the side of its record.
 fn side_or_row(settings: &Settings, given: Option<Side>, src: Addr, dst: Addr) -> Result<Side, Rule>
     requires { All (λ prefix. prefix.len ≤ 32) settings.now.prefixes.items }
-    ensures { result ≡ spec.side_or_row (plain_settings settings.now) given src.0 dst.0 }
+    ensures { result ≡ working.side_or_row (plain_settings settings.now) given src.0 dst.0 }
 {
     if is_bad_source(src, dst) {
         return Err(Rule::ISrc);
@@ -184,7 +259,7 @@ fn content_row(head: &Ipv4, packet: &[u8]) -> Option<Rule>
     requires fields { head.now ≡ fields_of packet.now }
     requires least { 20 ≤ head.now.header }
     requires inside { head.now.header ≤ length packet.now }
-    ensures { result ≡ spec.content_row packet.now }
+    ensures { result ≡ working.content_row packet.now }
 {
     let Ok(facts) = options(options_of(head, packet)) else {
         return Some(Rule::IOptBad);
@@ -231,7 +306,7 @@ fn payload_of<'a>(head: &Ipv4, packet: &'a [u8]) -> &'a [u8]
 // Makes these the fix rules that apply to a header, without I_TTL.
 fn fill_fixes(head: &Ipv4, packet: &[u8], fixes: &mut Fixes)
     requires { head.now ≡ fields_of packet.now }
-    ensures { fixes.new.items ≡ spec.header_fixes packet.now }
+    ensures { fixes.new.items ≡ working.header_fixes packet.now }
 {
     fixes.clear();
     let trail = usize::from(head.total) < packet.len();
@@ -248,15 +323,5 @@ fn note(fixes: &mut Fixes, rule: Rule, holds: bool)
 {
     if holds {
         fixes.push(rule);
-    }
-}
-
-// Returns whether the packet goes inwards and its TTL does not pass `hops` routers.
-fn has_low_ttl(hops: u8, side: Side, ttl: u8) -> bool
-    ensures { result ≡ (table.is_inward (Some side) && nat_le ttl hops) }
-{
-    match side {
-        Side::Inward => ttl <= hops,
-        Side::Outward => false,
     }
 }

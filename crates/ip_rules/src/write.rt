@@ -1,10 +1,10 @@
 //! Frames written to the outbox: as they were read, or with a new header (RFC 791 section 3.1).
 ghost use Rattle.std.specs.Prelude.{◌≡◌, ◌+◌, ◌≤◌, ◌<◌, [], ◌∷◌, ◌++◌, length};
-ghost use Rattle.ipv4_codec.specs.Write.{plain_header};
+ghost use Rattle.ipv4_codec.specs.WrittenHeader.{plain_header};
 ghost use Rattle.ip_rules.specs.Datagrams as spec;
 ghost use Rattle.wire_base.specs.declared.limits.TheConstants.{MAX_FRAME, MAX_LINK, MAX_PAYLOAD};
 
-use crate::judged::IpPacket;
+use crate::rows::IpPacket;
 use edge_io::Outbox;
 use ipv4_codec::{Ipv4, write_plain};
 use wire_base::Side;
@@ -27,9 +27,7 @@ pub fn raised(head: &Ipv4, hops: u8) -> Ipv4
     ensures { result ≡ spec.raised hops head.now }
 {
     let mut head = *head;
-    if head.ttl <= hops {
-        head.ttl = hops + 1;
-    }
+    head.ttl = head.ttl.max(hops + 1);
     head
 }
 

@@ -11,27 +11,28 @@ use Rattle.pcap_file.specs.Records as records
 use Rattle.rule_book.specs.declared.rule.Rule.{Rule}
 use Rattle.rule_book.specs.declared.rule.Rule.TheVariants as rules
 use Rattle.rule_book.specs.Rules.{drop_rows, fix_rows, step_rows}
-use Rattle.norm_settings.specs.Settings.{PlainSettings}
+use Rattle.norm_settings.specs.SettingValues.{PlainSettings}
 use Rattle.era_state.specs.Quantities.{acked, first, end_of}
-use Rattle.era_state.specs.Emitted.{HasNoOtherBase, WrittenRemains}
+use Rattle.era_state.specs.EmissionLaws.{HasNoOtherBase, WrittenRemains}
 use Rattle.era_state.proofs.EmittedSegments.{other_before}
-use Rattle.era_agreement.specs.Sent.{is_era, segments_in, written_in}
-use Rattle.ip_rules.specs.Rows.{is_inward}
+use Rattle.era_agreement.specs.SentPackets.{is_era, segments_in, written_in}
+use Rattle.ip_rules.specs.RuleRows.{is_inward}
 use Rattle.ip_rules.specs.Datagrams.{Datagram, goes_in}
 use Rattle.tcp_norm.specs.Calls.{Call, is_written, segment_in, segments}
-use Rattle.tcp_norm.specs.Views.{View, view_of}
-use Rattle.tcp_norm.specs.Rows as era
+use Rattle.tcp_norm.specs.RuleViews.{View, view_of}
+use Rattle.tcp_norm.specs.RuleRows as era
 use Rattle.tcp_norm.specs.Outcomes.{call_of, outcome_by}
-use Rattle.tcp_norm.specs.Segments.{AreOfSegments}
-use Rattle.tcp_norm.specs.Brought as calls
-use Rattle.tcp_norm.proofs.BroughtOctets.{Stays, Steps, either_way, same_some}
+use Rattle.tcp_norm.specs.SegmentPackets.{AreOfSegments}
+use Rattle.tcp_norm.specs.BroughtOctets as calls
+use Rattle.tcp_norm.proofs.Lists.{some_same, some_none}
+use Rattle.tcp_norm.proofs.BroughtOctets.{Stays, Steps, either_way}
 use Rattle.norm_engine.specs.Items.{Item, now_with}
-use Rattle.norm_engine.specs.Rows.{is_segment, side_of_record}
+use Rattle.norm_engine.specs.RuleRows.{is_segment, side_of_record}
 use Rattle.norm_engine.specs.Calls.{datagram_after, flow_calls, past_of, segment_after}
 use Rattle.norm_engine.specs.Trace.{Read, dropped_by, drops, era_by, holds, is_held, item_of, named_rows, noted_rows, outcome_of, read_after, rules_by}
 use Rattle.norm_engine.specs.Agreement.{sent_in}
-use Rattle.norm_engine.specs.Laws.{IsSound, LawfulCallsAreMade}
-use Rattle.norm_engine.specs.Brought.{Brings, IsAdded, IsBrought, LawfulInventsNothing, is_clash, names_clash, Contradicts, IsConsistent, LawfulClashesAreReal, NamesEachClash, ConsistentIsWithoutClash}
+use Rattle.norm_engine.specs.TraceLaws.{IsSound, LawfulCallsAreMade}
+use Rattle.norm_engine.specs.BroughtOctets.{Brings, IsAdded, IsBrought, LawfulInventsNothing, is_clash, names_clash, Contradicts, IsConsistent, LawfulClashesAreReal, NamesEachClash, ConsistentIsWithoutClash}
 use Rattle.norm_engine.proofs.Items.{era_told, found_passes, nothing_noted, segment_rules, segment_verdict, sides}
 use Rattle.norm_engine.proofs.Datagrams.{made_of}
 use Rattle.norm_engine.proofs.Traces.{both_of, called, calls_with}
@@ -122,9 +123,6 @@ written_with l settings link era item older sound segment h =
 abbrev written_here : Link → (era : ℕ) → Item → List Written
 written_here link era item = cond (is_era era item.entry.era && is_written item.entry.verdict) (segments_in (is_inward item.entry.side) (map (packet_in link) item.frames)) []
 
-no_some : {X : Type 0} {x : X} → None ≡ Some x → ⊥
-no_some e = cc
-
 -- what is new with the last record
 new_brought : {X : Type 0} (l : Laws) (settings : PlainSettings) (link : Link) (item : Item) (older : List Item) → IsSound settings link (item ∷ older)
     → (era base : ℕ) (q : List Written → Option X) (x : X) (Has : List Written → Written → Type 0) → Steps settings era base q x Has
@@ -145,7 +143,7 @@ new_brought l settings link item older sound era base q x Has step only none has
     none_then = ap q (past_is l settings link era older r before) ∙ none
 
     by : (segment : Option Datagram) → segment_after settings link older r ≡ segment → Brings settings link era Has item older
-    by None h = absurd (no_some (sym none_then ∙ (sym (ap q (written_with l settings link era item older sound None h)) ∙ has)))
+    by None h = absurd (some_none (sym none_then ∙ (sym (ap q (written_with l settings link era item older sound None h)) ∙ has)))
     by (Some d) h =
         let same = written_with l settings link era item older sound (Some d) h in
         let made = subst (AreOfSegments settings) (calls_are l settings link item older sound (Some d) h) (l.made settings link (item ∷ older) sound) in
@@ -167,7 +165,7 @@ brought_by : {X : Type 0} (l : Laws) (settings : PlainSettings) (link : Link) (e
     → q [] ≡ None → Stays q → Steps settings era base q x Has
     → (trace : List Item) → IsSound settings link trace → HasNoOtherBase base (written_in era (sent_in link trace)) → q (written_in era (sent_in link trace)) ≡ Some x
     → IsAdded settings link era (λ ws. q ws ≡ Some x) Has trace
-brought_by l settings link era base q x Has empty stays step [] sound only has = absurd (no_some (sym empty ∙ has))
+brought_by l settings link era base q x Has empty stays step [] sound only has = absurd (some_none (sym empty ∙ has))
 brought_by l settings link era base q x Has empty stays step (item ∷ older) sound only has =
     let before = written_in era (sent_in link older) in
     let more = written_here link era item in
@@ -179,14 +177,14 @@ brought_by l settings link era base q x Has empty stays step (item ∷ older) so
       item = item;
       older = older;
       trace_is = refl;
-      new = λ e. no_some (sym none ∙ e);
+      new = λ e. some_none (sym none ∙ e);
       now = has;
       brings = new_brought l settings link item older sound era base q x Has step only none has;
     })
 
 pub invents_nothing : Laws → LawfulInventsNothing
 invents_nothing l settings link trace sound era base based =
-    let only : HasNoOtherBase base (written_in era (sent_in link trace)) = λ number e. same_some (sym e ∙ based) in
+    let only : HasNoOtherBase base (written_in era (sent_in link trace)) = λ number e. some_same (sym e ∙ based) in
     record {
       octets = λ offset octet has.
           brought_by l settings link era base (λ ws. first base ws offset) octet (calls.HasAt base offset octet) refl (λ ws more y e. (l.remains base ws more).octet_is offset y e)

@@ -7,30 +7,30 @@ use Rattle.wire_base.specs.declared.address.Link.{Link}
 use Rattle.wire_base.specs.declared.address.Side.{Side}
 use Rattle.wire_base.specs.Ipv4 as ip
 use Rattle.wire_base.specs.Frames.{packet_in}
-use Rattle.icmp_codec.specs.Quote.{quoted_in}
-use Rattle.ipv4_codec.specs.Header.{fields_of}
+use Rattle.icmp_codec.specs.QuotedPacket.{quoted_in}
+use Rattle.ipv4_codec.specs.HeaderFields.{fields_of}
 use Rattle.pcap_file.specs.Records.{Packet}
 use Rattle.rule_book.specs.declared.rule.Rule.{Rule}
 use Rattle.rule_book.specs.declared.rule.Rule.TheVariants as rules
 use Rattle.rule_book.specs.Rules.{segment_rows}
-use Rattle.norm_settings.specs.Settings.{PlainSettings}
+use Rattle.norm_settings.specs.SettingValues.{PlainSettings}
 use Rattle.ip_rules.specs.Datagrams.{Datagram, datagram_of, datagram_in}
-use Rattle.ip_rules.specs.Rows.{carries_ip, side_in, is_inward, holds_in, holds_ip, whole_fix_rows, piece_fix_rows, ip_dropped_by, ip_fixes}
-use Rattle.ip_rules.specs.Judged.{where_holds}
+use Rattle.ip_rules.specs.RuleRows.{carries_ip, side_in, is_inward, holds_in, holds_ip, whole_fix_rows, piece_fix_rows, ip_dropped_by, ip_fixes}
+use Rattle.ip_rules.specs.JudgedRecord.{where_holds}
 use Rattle.ip_rules.proofs.Datagrams.{made_by, inward_is}
-use Rattle.dgram_rules.specs.Rows.{holds_dgram, dgram_dropped_by}
+use Rattle.dgram_rules.specs.RuleRows.{holds_dgram, dgram_dropped_by}
 use Rattle.dgram_rules.proofs.Telling.{others_have_none}
 use Rattle.tcp_norm.specs.Calls.{Call}
-use Rattle.tcp_norm.specs.Views.{view_of}
-use Rattle.tcp_norm.specs.Rows as era
-use Rattle.reassembly.specs.Pieces.{Fragment, is_whole, whole_of, datagram_octets}
-use Rattle.reassembly.specs.Rows as fragments
+use Rattle.tcp_norm.specs.RuleViews.{view_of}
+use Rattle.tcp_norm.specs.RuleRows as era
+use Rattle.reassembly.specs.DatagramFragments.{Fragment, is_whole, whole_of, datagram_octets}
+use Rattle.reassembly.specs.RuleRows as fragments
 use Rattle.reassembly.specs.Calls as reassembly
-use Rattle.norm_engine.specs.Rows.{side_of_record, is_tcp, holds_tcp, is_segment}
+use Rattle.norm_engine.specs.RuleRows.{side_of_record, is_tcp, holds_tcp, is_segment}
 use Rattle.norm_engine.specs.Fragments.{Offering, fragment_with, fragment_in, offering_of, offering_in, holds_offered, pieces_with, completes, i_ttl, head_of_whole, datagram_made, joined_in}
 use Rattle.norm_engine.specs.Calls.{Past, where_passes, datagram_by}
 use Rattle.norm_engine.specs.Trace.{Read, is_quoted_live, is_held}
-use Rattle.norm_engine.specs.Engine.{read_with}
+use Rattle.norm_engine.specs.working.EngineAnswers.{read_with}
 use Rattle.ipv4_codec.specs.declared.header.Ipv4.{Ipv4}
 
 -- the rules of each layer, of what was read

@@ -8,33 +8,34 @@ use Rattle.wire_base.specs.Segments.{Written}
 use Rattle.wire_base.specs.Frames.{link_octets}
 use Rattle.pcap_file.specs.Records as records
 use Rattle.tcp_codec.specs.declared.header.Tcp.{Tcp}
-use Rattle.udp_codec.specs.Checksum.{mended}
+use Rattle.udp_codec.specs.WrittenChecksum.{mended}
 use Rattle.rule_book.specs.declared.rule.Rule.{Rule}
-use Rattle.norm_settings.specs.Settings.{PlainSettings}
-use Rattle.ip_rules.specs.declared.judged.IpPacket.{IpPacket}
+use Rattle.norm_settings.specs.SettingValues.{PlainSettings}
+use Rattle.ip_rules.specs.declared.rows.IpPacket.{IpPacket}
 use Rattle.ip_rules.specs.Datagrams.{Datagram, datagram_with, head_at}
-use Rattle.ipv4_codec.specs.Write.{plain_header}
-use Rattle.dgram_rules.specs.Rows.{pseudo_of}
+use Rattle.ipv4_codec.specs.WrittenHeader.{plain_header}
+use Rattle.dgram_rules.specs.RuleRows.{pseudo_of}
 use Rattle.tcp_norm.specs.Calls.{Call, Alive, numbers_of}
-use Rattle.tcp_norm.specs.Views.{view_of, idle_at}
-use Rattle.tcp_norm.specs.Steps.{idled, idle_end}
-use Rattle.tcp_norm.specs.Standing as flows
+use Rattle.tcp_norm.specs.RuleViews.{view_of, idle_at}
+use Rattle.tcp_norm.specs.IdleEnds.{idled, idle_end}
+use Rattle.tcp_norm.specs.TableAndStore as flows
 use Rattle.tcp_norm.specs.Outcomes.{call_of, expiry_of}
-use Rattle.tcp_norm.specs.Segments.{PacketsAreItsOwn}
+use Rattle.tcp_norm.specs.SegmentPackets.{PacketsAreItsOwn}
 use Rattle.reassembly.specs.declared.assembly.Assembly.{Assembly}
-use Rattle.reassembly.specs.Assemblies as fragments
+use Rattle.reassembly.specs.AssemblyState as fragments
 use Rattle.reassembly.specs.Calls as reassembly
-use Rattle.tcp_norm.specs.Passing.{given, IsUnsent}
+use Rattle.tcp_norm.specs.PassedPackets.{given, IsUnsent}
 use Rattle.norm_engine.specs.declared.judge.Decision.{Decision}
 use Rattle.norm_engine.specs.declared.judge.Decision.TheVariants as decisions
-use Rattle.norm_engine.specs.Judgment.{Judgment, judgment_of, Arp, Drop, Hold, Send, Segment}
+use Rattle.norm_engine.specs.working.RecordJudgment.{Judgment, judgment_of, Arp, Drop, Hold, Send, Segment}
 use Rattle.norm_engine.specs.Items.{Item, now_with}
-use Rattle.norm_engine.specs.Rows.{is_segment}
+use Rattle.norm_engine.specs.RuleRows.{is_segment}
 use Rattle.norm_engine.specs.Fragments.{fragment_in, piece_calls, with_offered}
 use Rattle.norm_engine.specs.Calls.{Past, past_of, flow_calls}
-use Rattle.norm_engine.specs.Frames.{octets_sent, mended_frame, frame_by}
+use Rattle.norm_engine.specs.MessageFrames.{octets_sent, mended_frame, frame_by}
 use Rattle.norm_engine.specs.Trace.{Read, read_after, is_held, item_of, named_rows, frames_by, emits}
-use Rattle.norm_engine.specs.Engine.{Engaged, StandsFor, IsTaken, IsSent, Judges, Fits, is_as_read, frames_for, frame_for, frame_with, frames_given, payload_for}
+use Rattle.norm_engine.specs.EngineState.{Engaged, StandsFor, frames_given}
+use Rattle.norm_engine.specs.working.EngineAnswers.{IsTaken, IsSent, Judges, Fits, is_as_read, frames_for, frame_for, frame_with, payload_for}
 use Rattle.norm_engine.proofs.Items.{taken_rows, segment_calls, plain_calls, plain_frames}
 use Rattle.norm_engine.proofs.Traces.{both_of, segment_known, long_enough}
 

@@ -12,26 +12,26 @@ use Rattle.wire_base.specs.Ipv4 as ip
 use Rattle.linked_table.proofs.Lists.{all_weaker}
 use Rattle.pcap_file.specs.Records.{Packet}
 use Rattle.rule_book.specs.declared.rule.Rule.{Rule}
-use Rattle.norm_settings.specs.Settings.{PlainSettings}
+use Rattle.norm_settings.specs.SettingValues.{PlainSettings}
 use Rattle.ip_rules.specs.Datagrams.{Datagram, DatagramsAreKnown}
-use Rattle.ip_rules.specs.Rows.{carries_ip, side_in, tells_side}
-use Rattle.era_agreement.specs.Sent.{is_era}
+use Rattle.ip_rules.specs.RuleRows.{carries_ip, side_in, tells_side}
+use Rattle.era_agreement.specs.SentPackets.{is_era}
 use Rattle.tcp_norm.specs.Calls.{Call, Outcome, begun_in, key_at, key_of, live, segment_in}
-use Rattle.tcp_norm.specs.Lives.{AreMade, begun_for, last_begun}
+use Rattle.tcp_norm.specs.LiveEras.{AreMade, begun_for, last_begun}
 use Rattle.tcp_norm.specs.Outcomes.{begun_with, call_of, outcome_at, outcome_by}
-use Rattle.tcp_norm.specs.Rows as era
-use Rattle.tcp_norm.specs.Segments.{PacketsAreItsOwn}
-use Rattle.tcp_norm.specs.Views.{View, number_of, view_of}
+use Rattle.tcp_norm.specs.RuleRows as era
+use Rattle.tcp_norm.specs.SegmentPackets.{PacketsAreItsOwn}
+use Rattle.tcp_norm.specs.RuleViews.{View, number_of, view_of}
 use Rattle.tcp_norm.proofs.CallKinds.{effect_made}
 use Rattle.tcp_norm.proofs.EraCounts.{lasts_made}
 use Rattle.tcp_norm.proofs.LiveEras.{Effect, key_same, live_last}
 use Rattle.norm_engine.specs.Items.{Item, now_with}
-use Rattle.norm_engine.specs.Rows.{is_segment, side_of_record}
+use Rattle.norm_engine.specs.RuleRows.{is_segment, side_of_record}
 use Rattle.norm_engine.specs.Calls.{datagram_after, flow_calls, past_of, segment_after, with_asked}
 use Rattle.norm_engine.specs.Trace.{dropped_by, era_by, item_of, outcome_of, read_after, side_by}
-use Rattle.norm_engine.specs.Certain.{ItemsAreCertain}
-use Rattle.norm_engine.specs.Laws.{IsSound, LawfulCallsAreMade}
-use Rattle.norm_engine.specs.Recorded.{AddressPair, IsOfPair}
+use Rattle.norm_engine.specs.CertainReading.{ItemsAreCertain}
+use Rattle.norm_engine.specs.TraceLaws.{IsSound, LawfulCallsAreMade}
+use Rattle.norm_engine.specs.RecordedHost.{AddressPair, IsOfPair}
 use Rattle.norm_engine.proofs.Datagrams.{IsEither, carried, either_of, joined, made_of}
 use Rattle.norm_engine.proofs.RecordedPackets.{era_is, is_outward}
 use Rattle.norm_engine.proofs.Traces.{both_of, called, calls_with, rows_are_of_eras}

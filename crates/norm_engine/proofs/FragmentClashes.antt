@@ -8,12 +8,12 @@ use Rattle.pcap_file.specs.Records as records
 use Rattle.rule_book.specs.declared.rule.Rule.{Rule}
 use Rattle.rule_book.specs.declared.rule.Rule.TheVariants as rules
 use Rattle.rule_book.specs.Rules.{drop_rows, fix_rows, step_rows}
-use Rattle.norm_settings.specs.Settings.{PlainSettings}
+use Rattle.norm_settings.specs.SettingValues.{PlainSettings}
 use Rattle.linked_table.proofs.Lists.{all_weaker}
-use Rattle.reassembly.specs.Pieces.{Fragment, is_whole}
+use Rattle.reassembly.specs.DatagramFragments.{Fragment, is_whole}
 use Rattle.reassembly.specs.Calls.{Answer, held, done, dropped, Call, gathered}
-use Rattle.reassembly.specs.Rows as fragments
-use Rattle.reassembly.specs.Rows.{answer_at, answer_by, f_align, f_big, f_clash, f_df, f_empty, f_end, f_many, f_room, first_row, is_done, own_rows, view_of}
+use Rattle.reassembly.specs.RuleRows as fragments
+use Rattle.reassembly.specs.RuleRows.{answer_at, answer_by, f_align, f_big, f_clash, f_df, f_empty, f_end, f_many, f_room, first_row, is_done, own_rows, view_of}
 use Rattle.reassembly.proofs.Datagrams.{AreSound, each_in, whole_is_its_pieces}
 use Rattle.reassembly.proofs.Entries.{id_is}
 use Rattle.norm_engine.specs.Items.{Item, now_with}

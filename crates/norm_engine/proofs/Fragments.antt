@@ -11,25 +11,25 @@ use Rattle.pcap_file.specs.Records.{Packet as Record}
 use Rattle.rule_book.specs.declared.rule.Rule.{Rule}
 use Rattle.rule_book.specs.declared.rule.Rule.TheVariants as rules
 use Rattle.rule_book.specs.Rules.{fragment_rows}
-use Rattle.norm_settings.specs.Settings.{PlainSettings}
-use Rattle.ip_rules.specs.declared.judged.IpPacket.{IpPacket}
-use Rattle.ip_rules.specs.Rows.{carries_ip, side_in, tells_side, piece_fix_rows, ip_dropped_by, ip_fixes}
-use Rattle.ipv4_codec.specs.Header.{fields_of}
+use Rattle.norm_settings.specs.SettingValues.{PlainSettings}
+use Rattle.ip_rules.specs.declared.rows.IpPacket.{IpPacket}
+use Rattle.ip_rules.specs.RuleRows.{carries_ip, side_in, tells_side, piece_fix_rows, ip_dropped_by, ip_fixes}
+use Rattle.ipv4_codec.specs.HeaderFields.{fields_of}
 use Rattle.ip_rules.specs.Datagrams.{Datagram, AreOctets, HasSizes, goes_in}
-use Rattle.ip_rules.specs.Judged.{IsKept, IsRead, where_holds}
+use Rattle.ip_rules.specs.JudgedRecord.{IsKept, IsRead, where_holds}
 use Rattle.reassembly.specs.declared.piece.Whole.{Whole}
 use Rattle.reassembly.specs.declared.piece.Offered.TheVariants as offers
 use Rattle.tcp_norm.specs.Calls as flows
-use Rattle.reassembly.specs.Pieces.{Fragment, IsPiece, is_whole, whole_of, datagram_octets}
+use Rattle.reassembly.specs.DatagramFragments.{Fragment, IsPiece, is_whole, whole_of, datagram_octets}
 use Rattle.reassembly.specs.Calls.{Answer, held, dropped, Call, done}
-use Rattle.reassembly.specs.Rows as fragments
-use Rattle.reassembly.specs.Rows.{answer_by, answer_at, view_of, call_of, offered, offered_at, is_held, is_done, holds_fragment}
+use Rattle.reassembly.specs.RuleRows as fragments
+use Rattle.reassembly.specs.RuleRows.{answer_by, answer_at, view_of, call_of, offered, offered_at, is_held, is_done, holds_fragment}
 use Rattle.reassembly.proofs.Rules.{first_row_drops}
-use Rattle.norm_engine.specs.Judgment.{Judgment, Drop, Hold}
-use Rattle.norm_engine.specs.Rows.{side_of_record, is_segment}
+use Rattle.norm_engine.specs.working.RecordJudgment.{Judgment, Drop, Hold}
+use Rattle.norm_engine.specs.RuleRows.{side_of_record, is_segment}
 use Rattle.norm_engine.specs.Fragments.{Offering, fragment_with, fragment_in, with_offered, offering_of, offering_in, holds_offered, pieces_with, completes, i_ttl, head_of_whole, datagram_made, joined_in}
 use Rattle.norm_engine.specs.Calls.{Past, where_passes, datagram_by}
-use Rattle.norm_engine.specs.Engine.{IsMadeWhole, IsPieceJudged, IsWholeJudged, Judges, read_with}
+use Rattle.norm_engine.specs.working.EngineAnswers.{IsMadeWhole, IsPieceJudged, IsWholeJudged, Judges, read_with}
 use Rattle.norm_engine.proofs.Items.{found_passes}
 use Rattle.norm_engine.proofs.Datagrams.{IsMade, row_of_piece, fragment_by, made_of}
 use Rattle.norm_engine.proofs.Layers.{bare_row}

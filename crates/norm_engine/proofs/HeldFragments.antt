@@ -10,15 +10,15 @@ use Rattle.wire_base.specs.declared.address.Link.{Link}
 use Rattle.pcap_file.specs.Records as records
 use Rattle.rule_book.specs.declared.rule.Rule.TheVariants as rules
 use Rattle.rule_book.specs.declared.entry.Verdict.TheVariants as verdicts
-use Rattle.norm_settings.specs.Settings.{PlainSettings}
+use Rattle.norm_settings.specs.SettingValues.{PlainSettings}
 use Rattle.linked_table.proofs.Lists.{all_weaker}
 use Rattle.retain_store.specs.Maps.{octet_in}
 use Rattle.reassembly.specs.declared.id.DatagramId.{DatagramId}
-use Rattle.reassembly.specs.Pieces.{Fragment, octet_of}
+use Rattle.reassembly.specs.DatagramFragments.{Fragment, octet_of}
 use Rattle.reassembly.specs.Calls.{Answer, held, done, dropped, Call, expiry, offer, forgets, gathered, is_id, is_old, pieces_in}
-use Rattle.reassembly.specs.Laws.{is_late, own_after}
-use Rattle.reassembly.specs.Rows as fragments
-use Rattle.reassembly.specs.Rows.{AreAnswered, answer_at, clashes, differs, is_done, view_of}
+use Rattle.reassembly.specs.CallLaws.{is_late, own_after}
+use Rattle.reassembly.specs.RuleRows as fragments
+use Rattle.reassembly.specs.RuleRows.{AreAnswered, answer_at, clashes, differs, is_done, view_of}
 use Rattle.reassembly.proofs.Datagrams.{AreSound, EachHolds, StandAt, each_after, each_filter, fits_in, held_not_dropped, one_more}
 use Rattle.reassembly.proofs.Identifications.{apart}
 use Rattle.reassembly.proofs.Pieces.{clash_none, in_piece}

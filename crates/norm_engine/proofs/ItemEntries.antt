@@ -1,6 +1,6 @@
 -- An item's entry: its count of frames, at most this number of rules, no T_ROOM if there are cells
 -- for all.
-use Rattle.std.proofs.Common.{◌≡◌, ◌+◌, ◌≤◌, ◌==◌, ◌&&◌, ◌||◌, not, Bool, true, false, cond, List, [], ◌∷◌, ◌++◌, length, filter, Option, Some, None, refl, sym, ap, subst, ◌∙◌, arith, append_assoc, ℕ, ◌≢◌, ◌*◌, find, option_map}
+use Rattle.std.proofs.Common.{◌≡◌, ◌+◌, ◌≤◌, ◌&&◌, not, Bool, true, false, cond, List, [], ◌∷◌, ◌++◌, length, filter, Option, Some, None, refl, sym, ap, subst, ◌∙◌, arith, append_assoc, ℕ, ◌≢◌, ◌*◌, find, option_map}
 use Rattle.std.proofs.lemmas.List.{length-append, length-map}
 use Rattle.std.specs.List.{AllByRecursion, list_any}
 use Rattle.std.specs.Option.{option_or}
@@ -10,15 +10,15 @@ use Rattle.wire_base.specs.Tcp as tcp
 use Rattle.pcap_file.specs.Records as records
 use Rattle.rule_book.specs.declared.rule.Rule.{Rule}
 use Rattle.rule_book.specs.declared.rule.Rule.TheVariants as rules
-use Rattle.norm_settings.specs.Settings.{PlainSettings}
-use Rattle.ip_rules.specs.Judged.{where_holds}
-use Rattle.ip_rules.specs.Rows.{ip_fixes, piece_fix_rows, holds_ip, ip_drop_rows, ip_dropped_by}
+use Rattle.norm_settings.specs.SettingValues.{PlainSettings}
+use Rattle.ip_rules.specs.JudgedRecord.{where_holds}
+use Rattle.ip_rules.specs.RuleRows.{ip_fixes, piece_fix_rows, holds_ip, ip_drop_rows, ip_dropped_by}
 use Rattle.ip_rules.specs.Datagrams.{Datagram, goes_in, Packet, frame_of}
-use Rattle.dgram_rules.specs.Rows.{holds_dgram, dgram_dropped_by}
-use Rattle.reassembly.specs.Rows as fragments
-use Rattle.tcp_norm.specs.Rows as era
+use Rattle.dgram_rules.specs.RuleRows.{holds_dgram, dgram_dropped_by}
+use Rattle.reassembly.specs.RuleRows as fragments
+use Rattle.tcp_norm.specs.RuleRows as era
 use Rattle.tcp_norm.specs.Calls.{segment_in, segments, Call}
-use Rattle.tcp_norm.specs.Views.{View, view_of, idle_at}
+use Rattle.tcp_norm.specs.RuleViews.{View, view_of, idle_at}
 use Rattle.tcp_norm.specs.Outcomes.{outcome_by, outcome_at, ends}
 use Rattle.wire_base.specs.Segments.{Written}
 use Rattle.wire_base.specs.Frames.{link_octets}
@@ -28,20 +28,20 @@ use Rattle.rule_book.specs.declared.entry.Reason.TheVariants as reasons
 use Rattle.rule_book.specs.Entries.{HasOctets}
 use Rattle.era_state.specs.declared.probe.Probe.{Probe}
 use Rattle.era_state.specs.Quantities.{octets_of}
-use Rattle.tcp_norm.specs.Steps.{idled}
-use Rattle.tcp_norm.specs.Emits.{probe_packet, probe_packets, probe_dropped}
+use Rattle.tcp_norm.specs.IdleEnds.{idled}
+use Rattle.tcp_norm.specs.EmittedPackets.{probe_packet, probe_packets, probe_dropped}
 use Rattle.rule_book.specs.Rules.{datagram_rows, fix_rows, fragment_rows, segment_rows, step_rows}
-use Rattle.icmp_codec.specs.Quote.{quoted_in}
-use Rattle.tcp_norm.specs.Segments.{AreOfSegments, QuotaLeavesRoom}
+use Rattle.icmp_codec.specs.QuotedPacket.{quoted_in}
+use Rattle.tcp_norm.specs.SegmentPackets.{AreOfSegments, QuotaLeavesRoom}
 use Rattle.tcp_norm.proofs.Lists.{fewer}
-use Rattle.reassembly.specs.Rows.{holds_fragment}
+use Rattle.reassembly.specs.RuleRows.{holds_fragment}
 use Rattle.reassembly.proofs.Rules.{first_row_drops}
 use Rattle.norm_engine.specs.Items.{Item, now_with}
 use Rattle.norm_engine.specs.Fragments.{Offering, holds_offered, i_ttl}
-use Rattle.norm_engine.specs.Rows.{is_segment, holds_tcp}
+use Rattle.norm_engine.specs.RuleRows.{is_segment, holds_tcp}
 use Rattle.norm_engine.specs.Calls.{Past, datagram_after, past_of, segment_after, where_passes, flow_calls}
 use Rattle.norm_engine.specs.Trace.{Read, read_after, is_held, dropped_by, named_rows, rules_by, item_of, frames_by, frames_with, outcome_of, ended_by, is_quoted_live, holds, noted_rows}
-use Rattle.norm_engine.specs.Laws.{ItemsAreCounted, LawfulCallsAreMade, LawfulLeavesRoom, IsSound}
+use Rattle.norm_engine.specs.TraceLaws.{ItemsAreCounted, LawfulCallsAreMade, LawfulLeavesRoom, IsSound}
 use Rattle.norm_engine.proofs.Items.{segment_rules, nothing_noted, found_of}
 use Rattle.norm_engine.proofs.Datagrams.{IsMade, made_of, named_of_piece, passes, row_of_piece, row_of_datagram, row_of_header, row_of_era, notes_of_era, no_pass}
 use Rattle.norm_engine.proofs.Layers.{bare_named, datagram_named_is, dropped_by_layers, noted_by_layers}

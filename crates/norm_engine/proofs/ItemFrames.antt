@@ -9,48 +9,47 @@ use Rattle.wire_base.specs.declared.frame.FrameKind.TheVariants.{Arp}
 use Rattle.wire_base.specs.Numbers.{u16_octets, with_u16}
 use Rattle.wire_base.specs.Ipv4 as ip
 use Rattle.wire_base.specs.Frames.{kind_of, link_octets, packet_in}
-use Rattle.icmp_codec.specs.Quote.{quoted_in}
+use Rattle.icmp_codec.specs.QuotedPacket.{quoted_in}
 use Rattle.pcap_file.specs.Records as records
 use Rattle.rule_book.specs.declared.rule.Rule.{Rule}
 use Rattle.rule_book.specs.declared.rule.Rule.TheVariants as rules
 use Rattle.rule_book.specs.Rules.{segment_rows}
-use Rattle.norm_settings.specs.Settings.{PlainSettings}
-use Rattle.udp_codec.specs.Checksum as udp
-use Rattle.ip_rules.specs.Rows.{carries_arp, carries_ip, l_short, side_in, holds_ip, ip_drop_rows, ip_dropped_by, ip_fixes, piece_fix_rows, whole_fix_rows, l_type}
+use Rattle.norm_settings.specs.SettingValues.{PlainSettings}
+use Rattle.udp_codec.specs.WrittenChecksum as udp
+use Rattle.ip_rules.specs.RuleRows.{carries_arp, carries_ip, l_short, side_in, holds_ip, ip_drop_rows, ip_dropped_by, ip_fixes, piece_fix_rows, whole_fix_rows, l_type}
 use Rattle.ip_rules.specs.Datagrams.{AnewIsPacket, Datagram, DatagramsAreKnown, Packet, IsKnown, IsPacketOf, anew, as_read, datagram_in, datagram_of, frame_of, frames_of}
 use Rattle.ip_rules.proofs.Lists.{none_found}
-use Rattle.dgram_rules.specs.Rows.{pseudo_of, holds_dgram, dgram_dropped_by}
-use Rattle.ipv4_codec.specs.Header.{fields_of}
+use Rattle.dgram_rules.specs.RuleRows.{pseudo_of, holds_dgram, dgram_dropped_by}
+use Rattle.ipv4_codec.specs.HeaderFields.{fields_of}
 use Rattle.reassembly.specs.Calls as reassembly
-use Rattle.reassembly.specs.Pieces.{datagram_octets, is_whole, whole_of}
-use Rattle.reassembly.specs.Rows as fragments
-use Rattle.reassembly.specs.Rows.{answer_at, answer_by}
-use Rattle.tcp_norm.specs.Views.{view_of}
+use Rattle.reassembly.specs.DatagramFragments.{datagram_octets, is_whole, whole_of}
+use Rattle.reassembly.specs.RuleRows as fragments
+use Rattle.reassembly.specs.RuleRows.{answer_at, answer_by}
+use Rattle.tcp_norm.specs.RuleViews.{view_of}
 use Rattle.tcp_norm.specs.Outcomes.{outcome_at}
 use Rattle.wire_base.specs.Plain.{Plain}
-use Rattle.tcp_norm.specs.Rows as era
-use Rattle.tcp_norm.specs.Segments.{PacketsAreItsOwn}
+use Rattle.tcp_norm.specs.RuleRows as era
+use Rattle.tcp_norm.specs.SegmentPackets.{PacketsAreItsOwn}
 use Rattle.tcp_norm.proofs.Packets.{each_packet}
 use Rattle.tcp_norm.proofs.StreamFrames.{empty_left}
 use Rattle.receiver_model.specs.Messages as receivers
 use Rattle.norm_engine.specs.Items.{Item}
 use Rattle.norm_engine.specs.Fragments.{Offering, completes, datagram_made, head_of_whole, holds_offered, pieces_with, joined_in, offering_in, offering_of, pieces_before}
-use Rattle.norm_engine.specs.Frames.{octets_sent, frame_by}
-use Rattle.norm_engine.specs.Rows.{holds_tcp, is_segment, is_tcp, side_of_record}
+use Rattle.norm_engine.specs.MessageFrames.{octets_sent, frame_by}
+use Rattle.norm_engine.specs.RuleRows.{holds_tcp, is_segment, is_tcp, side_of_record}
 use Rattle.norm_engine.specs.Calls.{Past, datagram_after, datagram_by, past_of, segment_after, where_passes}
 use Rattle.norm_engine.specs.Trace.{Read, read_after, is_held, is_quoted_live, dropped_by, named_rows, outcome_of, frames_by, era_by, item_of, side_by}
-use Rattle.norm_engine.specs.Clean.{HasOctets, HaveOctets}
-use Rattle.norm_engine.specs.Engine.{datagram_row, read_with}
-use Rattle.norm_engine.specs.Outgoing.{IsWholePacket, CarriesWhole, GoesOut, ItemsGoOut}
-use Rattle.norm_engine.specs.Certain.{ItemsAreCertain}
-use Rattle.norm_engine.specs.Laws.{IsSound}
-use Rattle.norm_engine.specs.Sending.{HasShortFrames, IsPlainInwards, LawfulIsPlainInwards, LawfulIsShort, PlainIsReadAlike}
-use Rattle.norm_engine.proofs.Links.{kind_arp}
+use Rattle.norm_engine.specs.CleanRecords.{HasOctets, HaveOctets}
+use Rattle.norm_engine.specs.working.EngineAnswers.{datagram_row, read_with}
+use Rattle.norm_engine.specs.OutgoingFrames.{IsWholePacket, CarriesWhole, GoesOut, ItemsGoOut}
+use Rattle.norm_engine.specs.CertainReading.{ItemsAreCertain}
+use Rattle.norm_engine.specs.TraceLaws.{IsSound}
+use Rattle.norm_engine.specs.SentFrames.{HasShortFrames, IsPlainInwards, LawfulIsPlainInwards, LawfulIsShort, PlainIsReadAlike}
+use Rattle.norm_engine.proofs.Frames.{kind_arp, whole_frame, behind_frames, frames_go, go_out, packet_goes, whole, anew_is_short, written_is_short, frames_are_short, own_is_short, read_is_short, type_kept}
 use Rattle.norm_engine.proofs.Items.{segment_frames, plain_frames, AreOfEra, era_told, sides}
 use Rattle.norm_engine.proofs.Datagrams.{carried, joined, IsEither, IsMade, either_of, fragment_by, fragment_is, made_of, row_of_piece, first_none, no_pass}
 use Rattle.norm_engine.proofs.Layers.{bare_row, datagram_named_is, datagram_row_is}
 use Rattle.norm_engine.proofs.Judgments.{kept_as, not_nil}
-use Rattle.norm_engine.proofs.Frames.{whole_frame, behind_frames, frames_go, go_out, packet_goes, whole, anew_is_short, written_is_short, frames_are_short, own_is_short, read_is_short, type_kept}
 use Rattle.norm_engine.proofs.Traces.{RowsAreOfEras, both_of, datagram_known, link_kept, long_enough, segment_is, rows_are_of_eras}
 use Rattle.norm_engine.proofs.SegmentPackets.{SegmentLaws, behind_first, faultless, wholes}
 

@@ -14,13 +14,13 @@ use Rattle.rule_book.specs.declared.rule.Rule.{Rule}
 use Rattle.rule_book.specs.declared.entry.Ended.{Ended}
 use Rattle.rule_book.specs.declared.entry.Reason.{Reason}
 use Rattle.rule_book.specs.declared.entry.Reason.TheVariants as reasons
-use Rattle.norm_settings.specs.Settings.{PlainSettings}
+use Rattle.norm_settings.specs.SettingValues.{PlainSettings}
 use Rattle.ip_rules.specs.Datagrams.{Datagram, Packet, IsPacketOf, frame_of, frames_of, goes_in}
 use Rattle.era_state.specs.Quantities.{octets_of}
 use Rattle.tcp_norm.specs.Calls.{segment_in, Call, expiry, segments}
-use Rattle.tcp_norm.specs.Views.{View, view_of, idle_at}
-use Rattle.tcp_norm.specs.Steps.{idled, idle_end}
-use Rattle.tcp_norm.specs.Rows as era
+use Rattle.tcp_norm.specs.RuleViews.{View, view_of, idle_at}
+use Rattle.tcp_norm.specs.IdleEnds.{idled, idle_end}
+use Rattle.tcp_norm.specs.RuleRows as era
 use Rattle.tcp_norm.specs.Outcomes.{outcome_by, outcome_at, ended_with, ends, call_of}
 use Rattle.wire_base.specs.declared.address.Side.{Side}
 use Rattle.pcap_file.specs.Records as records
@@ -29,17 +29,17 @@ use Rattle.rule_book.specs.declared.rule.Rule.TheVariants as rules
 use Rattle.rule_book.specs.declared.entry.Entry.{Entry}
 use Rattle.rule_book.specs.Entries.{plain}
 use Rattle.rule_book.specs.Rules.{era_rows}
-use Rattle.ip_rules.specs.declared.judged.IpPacket.{IpPacket}
-use Rattle.ip_rules.specs.Rows.{tells_side, l_short}
-use Rattle.tcp_norm.specs.Passing.{Reports}
+use Rattle.ip_rules.specs.declared.rows.IpPacket.{IpPacket}
+use Rattle.ip_rules.specs.RuleRows.{tells_side, l_short}
+use Rattle.tcp_norm.specs.PassedPackets.{Reports}
 use Rattle.norm_engine.specs.Calls.{is_idle, packet_of, past_of, outcome_in, with_asked, flow_calls}
 use Rattle.norm_engine.specs.Trace.{verdict_by, rules_by, Read, read_after, is_held, holds, holds_of, dropped_by, noted_rows, named_rows, outcome_of, frames_with, frames_by, emits, side_by, era_by, begun_by, ended_by, item_by, item_of}
-use Rattle.norm_engine.specs.Judgment.{Judgment, Arp, Drop, Hold, Send, Segment}
+use Rattle.norm_engine.specs.working.RecordJudgment.{Judgment, Arp, Drop, Hold, Send, Segment}
 use Rattle.norm_engine.specs.Items.{Item, now_with}
-use Rattle.norm_engine.specs.Rows.{side_of_record}
-use Rattle.norm_engine.specs.Frames.{frame_by}
-use Rattle.norm_engine.specs.Engine.{IsTaken, Judges, entry_for}
-use Rattle.norm_engine.proofs.Links.{packet_behind}
+use Rattle.norm_engine.specs.RuleRows.{side_of_record}
+use Rattle.norm_engine.specs.MessageFrames.{frame_by}
+use Rattle.norm_engine.specs.working.EngineAnswers.{IsTaken, Judges, entry_for}
+use Rattle.norm_engine.proofs.Frames.{packet_behind}
 
 -- What is read back of the item of a segment: its call is the one that the rules make.
 

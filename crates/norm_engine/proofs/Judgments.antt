@@ -10,32 +10,32 @@ use Rattle.wire_base.specs.declared.address.Link.{Link}
 use Rattle.wire_base.specs.declared.address.Side.{Side}
 use Rattle.wire_base.specs.Frames.{link_octets, packet_in}
 use Rattle.wire_base.specs.Ipv4 as ip
-use Rattle.icmp_codec.specs.Quote.{quoted_in}
+use Rattle.icmp_codec.specs.QuotedPacket.{quoted_in}
 use Rattle.pcap_file.specs.Records.{Packet as Record}
 use Rattle.rule_book.specs.declared.rule.Rule.{Rule}
 use Rattle.rule_book.specs.declared.rule.Rule.TheVariants as rules
 use Rattle.rule_book.specs.Rules.{datagram_rows, segment_rows}
-use Rattle.norm_settings.specs.Settings.{PlainSettings}
-use Rattle.ip_rules.specs.declared.judged.IpPacket.{IpPacket}
-use Rattle.ip_rules.specs.Rows.{l_snap, l_short, l_type, carries_ip, carries_arp, side_in, tells_side, holds_ip, holds_in, ip_drop_rows, packet_drop_rows, whole_fix_rows, piece_fix_rows, ip_dropped_by, ip_fixes}
+use Rattle.norm_settings.specs.SettingValues.{PlainSettings}
+use Rattle.ip_rules.specs.declared.rows.IpPacket.{IpPacket}
+use Rattle.ip_rules.specs.RuleRows.{l_snap, l_short, l_type, carries_ip, carries_arp, side_in, tells_side, holds_ip, holds_in, ip_drop_rows, packet_drop_rows, whole_fix_rows, piece_fix_rows, ip_dropped_by, ip_fixes}
 use Rattle.ip_rules.specs.Datagrams.{Datagram, DatagramsAreKnown, AreOctets, IsDatagram, IsKnown, datagram_of, datagram_in, datagram_with}
-use Rattle.ip_rules.specs.Judged.{IsKept, IsRead, where_holds}
+use Rattle.ip_rules.specs.JudgedRecord.{IsKept, IsRead, where_holds}
 use Rattle.ip_rules.proofs.Lists.{none_found}
-use Rattle.dgram_rules.specs.Rows.{holds_dgram, dgram_dropped_by, u_short, u_sum_out}
+use Rattle.dgram_rules.specs.RuleRows.{holds_dgram, dgram_dropped_by, u_short, u_sum_out}
 use Rattle.ip_rules.proofs.Rules.{arp_is_no_ip}
 use Rattle.reassembly.specs.Calls.{held, dropped, Call}
-use Rattle.norm_engine.specs.Judged.{Judged}
-use Rattle.norm_engine.specs.Judgment.{Judgment, Drop}
-use Rattle.norm_engine.specs.Rows.{side_of_record, holds_tcp, is_segment}
+use Rattle.norm_engine.specs.working.DatagramJudgment.{Judged}
+use Rattle.norm_engine.specs.working.RecordJudgment.{Judgment, Drop}
+use Rattle.norm_engine.specs.RuleRows.{side_of_record, holds_tcp, is_segment}
 use Rattle.norm_engine.specs.Fragments.{fragment_in, offering_of, offering_in, holds_offered, joined_in}
 use Rattle.norm_engine.specs.Calls.{Past, where_passes, datagram_by}
 use Rattle.norm_engine.specs.Trace.{Read, is_quoted_live, named_rows}
-use Rattle.norm_engine.specs.Engine.{IsArp, IsWholeJudged, Judges, Follows, HeadIsRead, SegmentIsRead, datagram_row, joined, read_with}
+use Rattle.norm_engine.specs.working.EngineAnswers.{IsArp, IsWholeJudged, Judges, Follows, HeadIsRead, SegmentIsRead, datagram_row, joined, read_with}
 use Rattle.norm_engine.proofs.Items.{found_passes}
 use Rattle.norm_engine.proofs.Datagrams.{IsMade, row_of_piece, named_of_piece, fragment_by, made_of}
 use Rattle.norm_engine.proofs.Layers.{bare_row, bare_named, datagram_row_is, datagram_named_is, segment_rows_are}
 use Rattle.norm_engine.proofs.Frames.{carried_fails, few_fixes, kept_packet, payload_fits, short_frame, whole_frame, arp_short}
-use Rattle.norm_engine.specs.Judged as judged
+use Rattle.norm_engine.specs.working.DatagramJudgment as judged
 
 -- no datagram and no fragment is read of a record that a rule drops; an unfragmented datagram and a
 -- fragment exclude each other

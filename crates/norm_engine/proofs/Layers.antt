@@ -7,31 +7,32 @@ use Rattle.era_state.proofs.Quantities.{or_none}
 use Rattle.wire_base.specs.declared.address.Link.{Link}
 use Rattle.wire_base.specs.declared.address.Side.{Side}
 use Rattle.wire_base.specs.declared.address.Side.TheVariants.{Outward, Inward}
-use Rattle.icmp_codec.specs.Quote.{quoted_in}
+use Rattle.icmp_codec.specs.QuotedPacket.{quoted_in}
 use Rattle.ipv4_codec.specs.declared.header.Ipv4.{Ipv4}
 use Rattle.pcap_file.specs.Records.{Packet}
 use Rattle.rule_book.specs.declared.rule.Rule.{Rule}
 use Rattle.rule_book.specs.declared.rule.Rule.TheVariants as rules
 use Rattle.rule_book.specs.Rules.{datagram_rows, drop_rows, era_rows, fragment_rows, segment_rows, step_rows}
-use Rattle.norm_settings.specs.Settings.{PlainSettings}
+use Rattle.norm_settings.specs.SettingValues.{PlainSettings}
 use Rattle.ip_rules.specs.Datagrams.{Datagram}
-use Rattle.ip_rules.specs.Rows.{ip_drop_rows, piece_fix_rows, ip_dropped_by, ip_fixes}
-use Rattle.ip_rules.specs.Judged.{where_holds}
-use Rattle.dgram_rules.specs.Rows.{holds_dgram, dgram_dropped_by}
-use Rattle.tcp_norm.specs.Views.{View, view_of}
-use Rattle.tcp_norm.specs.Rows as era
+use Rattle.ip_rules.specs.RuleRows.{ip_drop_rows, piece_fix_rows, ip_dropped_by, ip_fixes}
+use Rattle.ip_rules.specs.JudgedRecord.{where_holds}
+use Rattle.dgram_rules.specs.RuleRows.{holds_dgram, dgram_dropped_by}
+use Rattle.tcp_norm.specs.RuleViews.{View, view_of}
+use Rattle.tcp_norm.specs.RuleRows as era
 use Rattle.reassembly.proofs.Rules.{first_row_drops}
 use Rattle.dgram_rules.specs.declared.judged.DgramJudged.{DgramJudged}
 use Rattle.dgram_rules.specs.declared.judged.DgramJudged.TheVariants as dgram
-use Rattle.dgram_rules.specs.Judged.{dgram_judged, icmp_judged, udp_judged}
-use Rattle.dgram_rules.specs.Laws.{Tells}
-use Rattle.norm_engine.specs.Rows.{holds_tcp, is_segment, is_tcp, holds_header, segment_row}
+use Rattle.dgram_rules.specs.JudgedDatagram.{dgram_judged, icmp_judged, udp_judged}
+use Rattle.dgram_rules.specs.RuleLaws.{Tells}
+use Rattle.norm_engine.specs.RuleRows.{holds_tcp, is_segment, is_tcp, holds_header}
+use Rattle.norm_engine.specs.working.FirstRow.{segment_row}
 use Rattle.norm_engine.specs.Fragments.{Offering, i_ttl}
 use Rattle.norm_engine.specs.Calls.{Past, where_passes, datagram_by}
 use Rattle.norm_engine.specs.Trace.{Read, is_quoted_live, holds, dropped_by, noted_rows, named_rows, drops}
-use Rattle.norm_engine.specs.Engine.{datagram_row, read_with, of_rows, IsReadSegment, HeadIsRead, Follows}
-use Rattle.norm_engine.specs.Judged.{Judged}
-use Rattle.norm_engine.specs.Judged as judged
+use Rattle.norm_engine.specs.working.EngineAnswers.{datagram_row, read_with, of_rows, IsReadSegment, HeadIsRead, Follows}
+use Rattle.norm_engine.specs.working.DatagramJudgment.{Judged}
+use Rattle.norm_engine.specs.working.DatagramJudgment as judged
 use Rattle.norm_engine.proofs.Items.{AreOfEra}
 use Rattle.norm_engine.proofs.Datagrams.{IsMade, made_of, mends_of_datagram, mends_of_era, mends_of_life, named_of_piece, no_row_on_tcp, notes_of_era, passes, row_of_datagram, row_of_era, row_of_header, row_of_piece, segment_tests}
 

@@ -1,4 +1,4 @@
-pub mod Links
+pub mod Frames
 pub mod Items
 pub mod Traces
 pub mod ItemEntries
@@ -9,15 +9,13 @@ pub mod Payloads
 pub mod EngineStates
 pub mod OneReading
 pub mod BroughtOctets
-pub mod GivenOctets
+pub mod EraReadings
 pub mod HeldFragments
 pub mod FragmentClashes
 pub mod ItemFrames
 pub mod Datagrams
-pub mod Frames
 pub mod Fragments
 pub mod SegmentPackets
 pub mod Messages
 pub mod RecordedPackets
-pub mod ErasInTurn
 pub mod EraPairs

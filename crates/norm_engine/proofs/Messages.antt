@@ -6,16 +6,16 @@ use Rattle.wire_base.specs.Ipv4 as ip
 use Rattle.wire_base.specs.Tcp as tcp
 use Rattle.wire_base.specs.Icmp as kinds
 use Rattle.wire_base.specs.Udp as udp
-use Rattle.wire_base.specs.Sums.{sum_is_right, pseudo_sum}
+use Rattle.wire_base.specs.Checksums.{sum_is_right, pseudo_sum}
 use Rattle.wire_base.specs.Plain.{Plain, IsPlainUdp, IsPlainIcmp}
-use Rattle.udp_codec.specs.Checksum.{mended}
+use Rattle.udp_codec.specs.WrittenChecksum.{mended}
 use Rattle.rule_book.specs.Rules.{datagram_rows}
-use Rattle.norm_settings.specs.Settings.{PlainSettings}
+use Rattle.norm_settings.specs.SettingValues.{PlainSettings}
 use Rattle.ip_rules.specs.Datagrams.{Datagram, Packet, IsPacketOf, IsKnown, goes_in}
 use Rattle.ip_rules.proofs.Lists.{none_found}
-use Rattle.dgram_rules.specs.Rows as dgram
-use Rattle.dgram_rules.specs.Rows.{holds_dgram, dgram_dropped_by, is_error, is_query}
-use Rattle.norm_engine.specs.Frames.{octets_sent}
+use Rattle.dgram_rules.specs.RuleRows as dgram
+use Rattle.dgram_rules.specs.RuleRows.{holds_dgram, dgram_dropped_by, is_error, is_query}
+use Rattle.norm_engine.specs.MessageFrames.{octets_sent}
 use Rattle.norm_engine.proofs.Frames.{carried_fails}
 
 -- UDP and ICMP

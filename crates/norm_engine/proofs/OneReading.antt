@@ -8,35 +8,34 @@ use Rattle.wire_base.specs.declared.address.Side.TheVariants.{Inward, Outward}
 use Rattle.wire_base.specs.Ipv4 as ip
 use Rattle.wire_base.specs.Plain.{Plain}
 use Rattle.wire_base.specs.Frames.{link_octets, packet_in}
-use Rattle.icmp_codec.specs.Quote.{quoted_in}
+use Rattle.icmp_codec.specs.QuotedPacket.{quoted_in}
 use Rattle.pcap_file.specs.Records as records
-use Rattle.tcp_codec.specs.Mending.{MendedSayTheSame}
+use Rattle.tcp_codec.specs.MendedSegment.{MendedSayTheSame}
 use Rattle.rule_book.specs.declared.rule.Rule.{Rule}
 use Rattle.rule_book.specs.declared.rule.Rule.TheVariants as rules
 use Rattle.rule_book.specs.Rules.{segment_rows}
-use Rattle.norm_settings.specs.Settings.{PlainSettings}
+use Rattle.norm_settings.specs.SettingValues.{PlainSettings}
 use Rattle.ip_rules.specs.Datagrams.{Datagram, AnewIsPacket, DatagramsAreKnown, IsKnown, anew, as_read, frame_of, goes_in}
-use Rattle.ip_rules.specs.Rows.{carries_ip, side_in, ip_fixes, whole_fix_rows, l_short}
-use Rattle.ip_rules.specs.Judged.{IsKept}
-use Rattle.dgram_rules.specs.Rows.{dgram_dropped_by}
+use Rattle.ip_rules.specs.RuleRows.{carries_ip, side_in, ip_fixes, whole_fix_rows, l_short}
+use Rattle.ip_rules.specs.JudgedRecord.{IsKept}
+use Rattle.dgram_rules.specs.RuleRows.{dgram_dropped_by}
 use Rattle.tcp_norm.specs.Calls.{is_written}
-use Rattle.tcp_norm.specs.Views.{View, view_of}
-use Rattle.tcp_norm.specs.Segments.{IsSegment}
+use Rattle.tcp_norm.specs.RuleViews.{View, view_of}
+use Rattle.tcp_norm.specs.SegmentPackets.{IsSegment}
 use Rattle.tcp_norm.proofs.StreamFrames.{empty_left}
 use Rattle.norm_engine.specs.Items.{Item}
-use Rattle.norm_engine.specs.Rows.{side_of_record, holds_tcp, is_segment}
+use Rattle.norm_engine.specs.RuleRows.{side_of_record, holds_tcp, is_segment}
 use Rattle.norm_engine.specs.Fragments.{pieces_before}
-use Rattle.norm_engine.specs.Frames.{octets_sent, mended_frame, frame_by}
+use Rattle.norm_engine.specs.MessageFrames.{octets_sent, mended_frame, frame_by}
 use Rattle.norm_engine.specs.Calls.{where_passes, segment_after, datagram_after, past_of}
 use Rattle.norm_engine.specs.Trace.{Read, read_after, is_held, is_quoted_live, dropped_by, named_rows, outcome_of, emits, frames_by, side_by, era_by, item_of}
-use Rattle.norm_engine.specs.Clean.{HasOctets, HaveOctets}
-use Rattle.norm_engine.specs.Certain.{IsWholeSegment, IsCertain, ItemsAreCertain}
-use Rattle.norm_engine.proofs.Links.{packet_behind}
+use Rattle.norm_engine.specs.CleanRecords.{HasOctets, HaveOctets}
+use Rattle.norm_engine.specs.CertainReading.{IsWholeSegment, IsCertain, ItemsAreCertain}
+use Rattle.norm_engine.proofs.Frames.{packet_behind, whole_frame}
 use Rattle.norm_engine.proofs.Items.{AreOfEra, era_told, plain_frames, segment_frames, segment_verdict, sides}
 use Rattle.norm_engine.proofs.Datagrams.{carried, joined, IsCarried, IsEither, either_of, made_of, first_none}
 use Rattle.norm_engine.proofs.Layers.{datagram_row_is, datagram_named_is}
 use Rattle.norm_engine.proofs.Judgments.{not_nil}
-use Rattle.norm_engine.proofs.Frames.{whole_frame}
 use Rattle.norm_engine.proofs.Traces.{both_of, datagram_known, link_kept, long_enough, segment_is, rows_are_of_eras}
 use Rattle.norm_engine.proofs.Receivers.{AreOf, PacketLaws, packets_are}
 use Rattle.norm_engine.proofs.SegmentPackets.{each_frame, outward_written, whole_segments}

@@ -10,38 +10,37 @@ use Rattle.wire_base.specs.Numbers.{u16_octets, with_u16}
 use Rattle.wire_base.specs.Ipv4 as ip
 use Rattle.wire_base.specs.Tcp as tcp
 use Rattle.wire_base.specs.Frames.{link_octets, packet_in}
-use Rattle.icmp_codec.specs.Quote.{quoted_in}
+use Rattle.icmp_codec.specs.QuotedPacket.{quoted_in}
 use Rattle.pcap_file.specs.Records as records
-use Rattle.udp_codec.specs.Checksum.{mended}
+use Rattle.udp_codec.specs.WrittenChecksum.{mended}
 use Rattle.rule_book.specs.declared.rule.Rule.{Rule}
 use Rattle.rule_book.specs.declared.rule.Rule.TheVariants as rules
 use Rattle.rule_book.specs.declared.entry.Verdict.TheVariants as verdicts
 use Rattle.rule_book.specs.Rules.{touches_payload}
-use Rattle.norm_settings.specs.Settings.{PlainSettings}
-use Rattle.ip_rules.specs.Rows.{l_short, piece_fix_rows, ip_fixes}
+use Rattle.norm_settings.specs.SettingValues.{PlainSettings}
+use Rattle.ip_rules.specs.RuleRows.{l_short, piece_fix_rows, ip_fixes}
 use Rattle.ip_rules.specs.Datagrams.{Datagram, Packet, IsPacketOf, DatagramsAreKnown, AnewIsPacket, datagram_in, frame_of, frames_of, anew}
-use Rattle.dgram_rules.specs.Rows.{pseudo_of, holds_dgram, dgram_dropped_by, u_short, u_sum_out}
-use Rattle.tcp_norm.specs.Rows as era
-use Rattle.tcp_norm.specs.Views.{view_of}
+use Rattle.dgram_rules.specs.RuleRows.{pseudo_of, holds_dgram, dgram_dropped_by, u_short, u_sum_out}
+use Rattle.tcp_norm.specs.RuleRows as era
+use Rattle.tcp_norm.specs.RuleViews.{view_of}
 use Rattle.tcp_norm.specs.Outcomes.{verdict_of}
-use Rattle.tcp_norm.specs.Segments.{PacketsAreItsOwn, CleanKeepsPayload}
+use Rattle.tcp_norm.specs.SegmentPackets.{PacketsAreItsOwn, CleanKeepsPayload}
 use Rattle.tcp_norm.proofs.StreamFrames.{empty_left}
-use Rattle.reassembly.specs.Pieces.{is_whole}
-use Rattle.reassembly.specs.Rows as fragments
-use Rattle.reassembly.specs.Rows.{answer_by, is_done}
+use Rattle.reassembly.specs.DatagramFragments.{is_whole}
+use Rattle.reassembly.specs.RuleRows as fragments
+use Rattle.reassembly.specs.RuleRows.{answer_by, is_done}
 use Rattle.norm_engine.specs.Items.{Item}
 use Rattle.norm_engine.specs.Fragments.{Offering, fragment_in, offering_of, holds_offered, pieces_before}
-use Rattle.norm_engine.specs.Laws.{IsSound}
-use Rattle.norm_engine.specs.Frames.{octets_sent, mended_frame, frame_by}
+use Rattle.norm_engine.specs.TraceLaws.{IsSound}
+use Rattle.norm_engine.specs.MessageFrames.{octets_sent, mended_frame, frame_by}
 use Rattle.norm_engine.specs.Calls.{segment_after}
 use Rattle.norm_engine.specs.Trace.{Read, read_after, is_held, is_quoted_live, dropped_by, named_rows, outcome_of, frames_by, verdict_by, item_of}
-use Rattle.norm_engine.specs.Clean.{is_clean, payload_of, payload_in, KeepsPayload, CleanIsKept, HasOctets, HaveOctets}
-use Rattle.norm_engine.proofs.Links.{packet_behind, carries_behind}
+use Rattle.norm_engine.specs.CleanRecords.{is_clean, payload_of, payload_in, KeepsPayload, CleanIsKept, HasOctets, HaveOctets}
+use Rattle.norm_engine.proofs.Frames.{packet_behind, carries_behind, whole_frame}
 use Rattle.norm_engine.proofs.Items.{segment_frames, plain_frames}
 use Rattle.norm_engine.proofs.Datagrams.{IsCarried, carried_in, row_of_piece, row_of_datagram, mends_of_life, named_of_piece, first_none}
 use Rattle.norm_engine.proofs.Layers.{dropped_by_layers, named_by_layers}
 use Rattle.norm_engine.proofs.Judgments.{unjoined}
-use Rattle.norm_engine.proofs.Frames.{whole_frame}
 use Rattle.norm_engine.proofs.Traces.{RowsAreOfEras, both_of, segment_is, link_kept}
 
 -- the payload by the protocol

@@ -11,39 +11,38 @@ use Rattle.wire_base.specs.Plain.{Plain}
 use Rattle.wire_base.specs.Segments.{Segment, fields_of, segment_of, Written}
 use Rattle.wire_base.specs.Frames.{link_octets, packet_in}
 use Rattle.pcap_file.specs.Records as records
-use Rattle.norm_settings.specs.Settings.{PlainSettings}
-use Rattle.ip_rules.specs.Rows.{is_inward, l_short}
+use Rattle.norm_settings.specs.SettingValues.{PlainSettings}
+use Rattle.ip_rules.specs.RuleRows.{is_inward, l_short}
 use Rattle.ip_rules.specs.Datagrams.{Datagram, Packet, DatagramsAreKnown, IsPacketOf, goes_in, frames_of}
 use Rattle.era_state.specs.Emission.{AreEmitted}
-use Rattle.era_agreement.specs.Sent.{Sent, is_era, inward_packets, aside_packets, written_as, segments_in, written_in, inward_places}
+use Rattle.era_agreement.specs.SentPackets.{Sent, is_era, inward_packets, aside_packets, written_as, segments_in, written_in, inward_places}
 use Rattle.era_agreement.specs.Agreement.{IsSilentPacket, read_to}
-use Rattle.era_agreement.specs.Laws.{EmittedAgrees, EmittedIsOfOneStream, EmittedMissesNothing, EmittedReadsOneStream, EmittedStaysNearAcks, EmittedTellsOneStream, IsEmittedEra, TellsItsStream}
+use Rattle.era_agreement.specs.AgreementLaws.{EmittedAgrees, EmittedIsOfOneStream, EmittedMissesNothing, EmittedReadsOneStream, EmittedStaysNearAcks, EmittedTellsOneStream, IsEmittedEra, TellsItsStream}
 use Rattle.tcp_norm.specs.Calls.{Call, Outcome, expiry, datagram, read, segments, is_written}
-use Rattle.tcp_norm.specs.Views.{view_of}
-use Rattle.tcp_norm.specs.Segments.{IsSegment, PacketsAreItsOwn, PacketsArePlain, ProbesAreSilent, CallsAreEmitted, IsSilentPacket as Silent}
+use Rattle.tcp_norm.specs.RuleViews.{view_of}
+use Rattle.tcp_norm.specs.SegmentPackets.{IsSegment, PacketsAreItsOwn, PacketsArePlain, ProbesAreSilent, CallsAreEmitted, IsSilentPacket as Silent}
 use Rattle.ip_rules.proofs.Datagrams.{inward_is}
-use Rattle.receiver_model.specs.Agreement.{FinAt, OctetAt}
+use Rattle.receiver_model.specs.FamilyAgreement.{FinAt, OctetAt}
 use Rattle.receiver_model.specs.Delivery.{Receiver, beginning}
 use Rattle.receiver_model.proofs.Members.{IsStream, Sound, sound_beginning, is_stream, run_keeps}
 use Rattle.retain_store.proofs.Counts.{count_most, none_counted, parts}
 use Rattle.era_state.specs.Offsets.{number_in}
 use Rattle.era_state.specs.Quantities.{acked, base_at, first}
-use Rattle.tcp_norm.specs.Held.{has_block, held_of, kept_at}
+use Rattle.tcp_norm.specs.HeldOctets.{has_block, held_of, kept_at}
 use Rattle.tcp_norm.proofs.HeldBlocks.{held_most, holds_at}
 use Rattle.norm_engine.specs.Items.{Item, now_with}
-use Rattle.norm_engine.specs.Rows.{is_segment, side_of_record}
+use Rattle.norm_engine.specs.RuleRows.{is_segment, side_of_record}
 use Rattle.norm_engine.specs.Calls.{segment_after, datagram_after, past_of, flow_calls}
 use Rattle.norm_engine.specs.Trace.{item_of, read_after, dropped_by, outcome_of, era_by}
-use Rattle.norm_engine.specs.Clean.{HasOctets, HaveOctets}
+use Rattle.norm_engine.specs.CleanRecords.{HasOctets, HaveOctets}
 use Rattle.norm_engine.specs.Agreement.{sent_for, sent_in}
-use Rattle.norm_engine.specs.Certain.{LawfulIsEmitted}
-use Rattle.norm_engine.specs.Laws.{IsSound, LawfulAgrees, LawfulCallsAreMade, LawfulIsOfOneStream, LawfulMissesNothing, LawfulReadsOneStream, LawfulStaysNearAcks, LawfulTellsStreams}
-use Rattle.norm_engine.specs.Waiting.{WaitingIsFew, WaitingIsKept}
-use Rattle.norm_engine.proofs.Links.{packet_behind}
+use Rattle.norm_engine.specs.CertainReading.{LawfulIsEmitted}
+use Rattle.norm_engine.specs.TraceLaws.{IsSound, LawfulAgrees, LawfulCallsAreMade, LawfulIsOfOneStream, LawfulMissesNothing, LawfulReadsOneStream, LawfulStaysNearAcks, LawfulTellsStreams}
+use Rattle.norm_engine.specs.MonitorMemory.{WaitingIsFew, WaitingIsKept}
+use Rattle.norm_engine.proofs.Frames.{packet_behind, whole}
 use Rattle.norm_engine.proofs.Items.{AreOfEra, era_told, sides, segment_frames, segment_verdict}
 use Rattle.norm_engine.proofs.Datagrams.{made_of}
 use Rattle.norm_engine.proofs.Traces.{RowsAreOfEras, both_of, calls_with, called, long_enough, segment_is}
-use Rattle.norm_engine.proofs.Frames.{whole}
 
 -- In each era of a lawful trace all receivers agree.
 

@@ -10,20 +10,20 @@ use Rattle.pcap_file.specs.Records.{Packet}
 use Rattle.rule_book.specs.declared.rule.Rule.{Rule}
 use Rattle.rule_book.specs.declared.entry.Verdict.TheVariants as verdicts
 use Rattle.rule_book.specs.Rules.{touches_payload}
-use Rattle.norm_settings.specs.Settings.{PlainSettings}
+use Rattle.norm_settings.specs.SettingValues.{PlainSettings}
 use Rattle.receiver_model.specs.Monitors.{EraMissesNothing}
-use Rattle.receiver_model.specs.Parts.{EachReadsPart}
+use Rattle.receiver_model.specs.StreamParts.{EachReadsPart}
 use Rattle.era_state.specs.Quantities.{base_of, end_of, first}
 use Rattle.era_agreement.specs.Agreement.{EraIsSound}
-use Rattle.era_agreement.specs.Sent.{is_era, inward_packets, inward_places, written_in}
-use Rattle.ip_rules.specs.Rows.{carries_ip, is_inward, tells_side}
+use Rattle.era_agreement.specs.SentPackets.{is_era, inward_packets, inward_places, written_in}
+use Rattle.ip_rules.specs.RuleRows.{carries_ip, is_inward, tells_side}
 use Rattle.norm_engine.specs.Items.{Item, packets}
-use Rattle.norm_engine.specs.Rows.{side_of_record}
+use Rattle.norm_engine.specs.RuleRows.{side_of_record}
 use Rattle.norm_engine.specs.Trace.{dropped_by, is_held, named_rows, read_after, side_by, verdict_by}
-use Rattle.norm_engine.specs.Clean.{is_clean}
+use Rattle.norm_engine.specs.CleanRecords.{is_clean}
 use Rattle.norm_engine.specs.Agreement.{AtEachHistory, MissesNothing, sent_in}
-use Rattle.norm_engine.specs.Laws.{IsSound, LawfulAgrees, LawfulKeepsClean, LawfulMissesNothing, LawfulReadsOneStream}
-use Rattle.norm_engine.specs.Recorded.{AddressPair, AreWrittenAsRecorded, IsOfPair, IsWrittenAsRecorded, LawfulWasReadSo, PassInwards, WasReadSo, any_record, goes_inwards, has_addresses, is_readable, may_have_pair, recorded_in, recorded_inwards, written_inwards}
+use Rattle.norm_engine.specs.TraceLaws.{IsSound, LawfulAgrees, LawfulKeepsClean, LawfulMissesNothing, LawfulReadsOneStream}
+use Rattle.norm_engine.specs.RecordedHost.{AddressPair, AreWrittenAsRecorded, IsOfPair, IsWrittenAsRecorded, LawfulWasReadSo, PassInwards, WasReadSo, any_record, goes_inwards, has_addresses, is_readable, may_have_pair, recorded_in, recorded_inwards, written_inwards}
 
 -- the laws that this is based on
 pub record Laws : Type 0 where

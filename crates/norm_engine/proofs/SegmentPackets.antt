@@ -10,37 +10,36 @@ use Rattle.wire_base.specs.Ipv4 as ip
 use Rattle.wire_base.specs.Tcp as tcp
 use Rattle.wire_base.specs.Numbers.{u16_octets, with_u16}
 use Rattle.wire_base.specs.Options.{are_well_formed}
-use Rattle.wire_base.specs.Sums.{word_sum, checksum_for}
+use Rattle.wire_base.specs.Checksums.{word_sum, checksum_for}
 use Rattle.wire_base.specs.Plain.{Plain}
 use Rattle.wire_base.specs.Segments.{Written}
 use Rattle.wire_base.specs.Frames.{link_octets, packet_in}
 use Rattle.ipv4_codec.specs.declared.header.Ipv4.{Ipv4}
-use Rattle.tcp_codec.specs.Mending.{MendedSayTheSame}
-use Rattle.tcp_codec.specs.Write.{segment_octets, AreReadBack}
+use Rattle.tcp_codec.specs.MendedSegment.{MendedSayTheSame}
+use Rattle.tcp_codec.specs.WrittenSegment.{segment_octets, AreReadBack}
 use Rattle.rule_book.specs.declared.rule.Rule.{Rule}
 use Rattle.rule_book.specs.Rules.{era_rows}
-use Rattle.norm_settings.specs.Settings.{PlainSettings}
-use Rattle.ip_rules.specs.Rows.{l_short}
+use Rattle.norm_settings.specs.SettingValues.{PlainSettings}
+use Rattle.ip_rules.specs.RuleRows.{l_short}
 use Rattle.ip_rules.specs.Datagrams.{Datagram, Packet, IsPacketOf, frame_of, frames_of, goes_in}
 use Rattle.tcp_norm.specs.Calls.{is_written, Outcome}
-use Rattle.tcp_norm.specs.Views.{View}
-use Rattle.tcp_norm.specs.Rows.{pseudo_of, holds_era, mended_by}
-use Rattle.tcp_norm.specs.Emits.{packet_by, segment_anew, segment_sent, sum_mended, probe_packets}
+use Rattle.tcp_norm.specs.RuleViews.{View}
+use Rattle.tcp_norm.specs.RuleRows.{pseudo_of, holds_era, mended_by}
+use Rattle.tcp_norm.specs.EmittedPackets.{packet_by, segment_anew, segment_sent, sum_mended, probe_packets}
 use Rattle.tcp_norm.specs.Outcomes.{outcome_at, outcome_by}
-use Rattle.tcp_norm.specs.Segments.{IsSegment, PacketsAreItsOwn}
+use Rattle.tcp_norm.specs.SegmentPackets.{IsSegment, PacketsAreItsOwn}
 use Rattle.tcp_norm.proofs.EraWrites.{fixed_or_passed}
 use Rattle.tcp_codec.specs.declared.header.SumRule.TheVariants.{Skip}
-use Rattle.tcp_codec.specs.Cleaning.{CleansOctets, CleansOnce, StaysWellFormed}
-use Rattle.tcp_codec.specs.Header.{fault_of}
+use Rattle.tcp_codec.specs.CleanedOptions.{CleansOctets, CleansOnce, StaysWellFormed}
+use Rattle.tcp_codec.specs.HeaderFields.{fault_of}
 use Rattle.tcp_codec.proofs.Segments.{fault_of-options}
 use Rattle.era_state.specs.declared.probe.Probe.{Probe}
-use Rattle.tcp_norm.specs.Rows as era
+use Rattle.tcp_norm.specs.RuleRows as era
 use Rattle.tcp_norm.proofs.Packets.{each_packet, IsPlainSegment, own_plain, sent_is}
-use Rattle.norm_engine.specs.Certain.{IsWholeSegment}
-use Rattle.norm_engine.specs.Outgoing.{IsWholePacket}
-use Rattle.norm_engine.proofs.Links.{packet_behind}
+use Rattle.norm_engine.specs.CertainReading.{IsWholeSegment}
+use Rattle.norm_engine.specs.OutgoingFrames.{IsWholePacket}
+use Rattle.norm_engine.proofs.Frames.{packet_behind, whole}
 use Rattle.norm_engine.proofs.Receivers.{AreOf}
-use Rattle.norm_engine.proofs.Frames.{whole}
 
 -- The packets that are written for a segment have whole headers.
 

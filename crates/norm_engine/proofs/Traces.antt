@@ -6,39 +6,39 @@ use Rattle.std.specs.List.{AllByRecursion}
 use Rattle.std.specs.Option.{option_or}
 use Rattle.std.proofs.lemmas.Bool.{not-false}
 use Rattle.wire_base.specs.declared.address.Link.{Link}
-use Rattle.wire_base.specs.Sums.{sum_is_right, pseudo_sum}
+use Rattle.wire_base.specs.Checksums.{sum_is_right, pseudo_sum}
 use Rattle.wire_base.specs.Tcp as tcp
 use Rattle.wire_base.specs.Options.{are_well_formed}
 use Rattle.pcap_file.specs.Records as records
 use Rattle.rule_book.specs.declared.rule.Rule.TheVariants as rules
 use Rattle.rule_book.specs.Rules.{segment_rows}
-use Rattle.norm_settings.specs.Settings.{PlainSettings}
+use Rattle.norm_settings.specs.SettingValues.{PlainSettings}
 use Rattle.wire_base.specs.Ipv4 as ip
 use Rattle.wire_base.specs.Frames.{packet_in}
-use Rattle.ip_rules.specs.Rows.{l_snap, l_short, ip_dropped_by, ip_fixes}
+use Rattle.ip_rules.specs.RuleRows.{l_snap, l_short, ip_dropped_by, ip_fixes}
 use Rattle.ip_rules.specs.Datagrams.{Datagram, DatagramsAreKnown, IsKnown, datagram_in, goes_in}
 use Rattle.ip_rules.proofs.Datagrams.{packet_octets, sizes}
 use Rattle.ip_rules.proofs.Lists.{none_found, taken, dropped}
-use Rattle.reassembly.specs.Pieces.{Fragment}
+use Rattle.reassembly.specs.DatagramFragments.{Fragment}
 use Rattle.reassembly.specs.Calls as reassembly
-use Rattle.reassembly.specs.Rows.{AreAnswered, is_done}
-use Rattle.reassembly.specs.Laws.{IsSized, AreSized}
+use Rattle.reassembly.specs.RuleRows.{AreAnswered, is_done}
+use Rattle.reassembly.specs.CallLaws.{IsSized, AreSized}
 use Rattle.reassembly.proofs.Datagrams.{wholes_are_sized}
-use Rattle.dgram_rules.specs.Rows as dgram
+use Rattle.dgram_rules.specs.RuleRows as dgram
 use Rattle.tcp_norm.specs.Calls.{Call, segments}
-use Rattle.tcp_norm.specs.Views.{view_of, idle_at}
+use Rattle.tcp_norm.specs.RuleViews.{view_of, idle_at}
 use Rattle.tcp_norm.specs.Outcomes.{call_of, expiry_of}
-use Rattle.tcp_norm.specs.Segments.{IsSegment, AsksSegment, AreOfSegments, PacketsAreItsOwn}
-use Rattle.tcp_norm.specs.Lives.{AreMade}
-use Rattle.tcp_norm.specs.Steps.{idled}
+use Rattle.tcp_norm.specs.SegmentPackets.{IsSegment, AsksSegment, AreOfSegments, PacketsAreItsOwn}
+use Rattle.tcp_norm.specs.LiveEras.{AreMade}
+use Rattle.tcp_norm.specs.IdleEnds.{idled}
 use Rattle.reassembly.specs.Calls.{Call as FragmentCall, expiry}
 use Rattle.norm_engine.specs.Items.{Item, now_with, packets}
-use Rattle.norm_engine.specs.Laws.{IsSound, IsWithin, IsAlwaysWithin}
+use Rattle.norm_engine.specs.TraceLaws.{IsSound, IsWithin, IsAlwaysWithin}
 use Rattle.norm_engine.specs.Fragments.{fragment_in, with_offered, piece_calls, pieces_before, offering_in, joined_in, Offering, offering_of}
-use Rattle.norm_engine.specs.Rows.{holds_header, is_segment}
+use Rattle.norm_engine.specs.RuleRows.{holds_header, is_segment}
 use Rattle.norm_engine.specs.Calls.{where_passes, segment_after, datagram_after, past_of, flow_calls, outcome_in, expiry_in, with_asked}
 use Rattle.norm_engine.specs.Trace.{item_of, read_after, Read, Lawful, item_by, dropped_by, noted_rows, named_rows}
-use Rattle.norm_engine.specs.Clean.{HasOctets, HaveOctets}
+use Rattle.norm_engine.specs.CleanRecords.{HasOctets, HaveOctets}
 use Rattle.norm_engine.proofs.Items.{AreOfEra, segment_calls, plain_calls}
 use Rattle.norm_engine.proofs.Datagrams.{IsJoined, fragment_is, joined_of, made_of, segment_tests}
 use Rattle.norm_engine.proofs.Frames.{kept_packet, rest_none}

@@ -3,8 +3,8 @@
 use Rattle.std.specs.Prelude.{ℕ, List, [], ◌∷◌, map}
 use Rattle.wire_base.specs.declared.address.Link.{Link}
 use Rattle.wire_base.specs.Frames.{packet_in}
-use Rattle.ip_rules.specs.Rows.{is_inward}
-use Rattle.era_agreement.specs.Sent.{Sent}
+use Rattle.ip_rules.specs.RuleRows.{is_inward}
+use Rattle.era_agreement.specs.SentPackets.{Sent}
 use Rattle.era_agreement.specs.Agreement as eras
 use Rattle.tcp_norm.specs.Calls.{is_written}
 use Rattle.norm_engine.specs.Items.{Item}

@@ -11,16 +11,16 @@ use Rattle.pcap_file.specs.Records as records
 use Rattle.rule_book.specs.declared.entry.Ended.{Ended}
 use Rattle.rule_book.specs.declared.entry.Reason.{Reason}
 use Rattle.rule_book.specs.declared.entry.Reason.TheVariants as reasons
-use Rattle.norm_settings.specs.Settings.{PlainSettings}
+use Rattle.norm_settings.specs.SettingValues.{PlainSettings}
 use Rattle.ip_rules.specs.Datagrams.{Datagram, Packet, datagram_in}
 use Rattle.tcp_norm.specs.Calls.{Call, expiry, datagram, Outcome, segments}
-use Rattle.tcp_norm.specs.Views.{idle_at}
-use Rattle.tcp_norm.specs.Steps.{idled}
+use Rattle.tcp_norm.specs.RuleViews.{idle_at}
+use Rattle.tcp_norm.specs.IdleEnds.{idled}
 use Rattle.tcp_norm.specs.Outcomes.{expiry_of}
 use Rattle.reassembly.specs.Calls as reassembly
 use Rattle.norm_engine.specs.Items.{Item, now_with}
 use Rattle.norm_engine.specs.Fragments.{pieces_before, offering_in, joined_in}
-use Rattle.norm_engine.specs.Rows.{is_segment}
+use Rattle.norm_engine.specs.RuleRows.{is_segment}
 
 -- the value, if it passes the test
 abbrev pub where_passes : {A : Type 0} → (A → Bool) → Option A → Option A

@@ -8,17 +8,17 @@ use Rattle.wire_base.specs.Ipv4 as ip
 use Rattle.wire_base.specs.Frames.{packet_in}
 use Rattle.pcap_file.specs.Records as records
 use Rattle.ipv4_codec.specs.declared.header.Ipv4.{Ipv4}
-use Rattle.ipv4_codec.specs.Header.{fields_of}
+use Rattle.ipv4_codec.specs.HeaderFields.{fields_of}
 use Rattle.rule_book.specs.declared.rule.Rule.{Rule}
 use Rattle.rule_book.specs.declared.rule.Rule.TheVariants as rules
-use Rattle.norm_settings.specs.Settings.{PlainSettings}
+use Rattle.norm_settings.specs.SettingValues.{PlainSettings}
 use Rattle.ip_rules.specs.Datagrams.{Datagram, goes_in}
-use Rattle.ip_rules.specs.Rows.{carries_ip, side_in, piece_fix_rows, ip_dropped_by, ip_fixes}
-use Rattle.ip_rules.specs.Judged.{where_holds}
+use Rattle.ip_rules.specs.RuleRows.{carries_ip, side_in, piece_fix_rows, ip_dropped_by, ip_fixes}
+use Rattle.ip_rules.specs.JudgedRecord.{where_holds}
 use Rattle.reassembly.specs.declared.piece.Whole.{Whole}
-use Rattle.reassembly.specs.Pieces.{Fragment, whole_of, datagram_octets}
+use Rattle.reassembly.specs.DatagramFragments.{Fragment, whole_of, datagram_octets}
 use Rattle.reassembly.specs.Calls.{Call, expiry}
-use Rattle.reassembly.specs.Rows.{View, view_of, answer_at, call_of, is_done, holds_fragment}
+use Rattle.reassembly.specs.RuleRows.{View, view_of, answer_at, call_of, is_done, holds_fragment}
 use Rattle.norm_engine.specs.Items.{Item, now_with}
 
 -- the fragment with a header of these fields, followed by these octets

@@ -6,11 +6,11 @@ use Rattle.wire_base.specs.declared.address.Link.{Link}
 use Rattle.rule_book.specs.declared.rule.Rule.{Rule}
 use Rattle.rule_book.specs.declared.rule.Rule.TheVariants as rules
 use Rattle.rule_book.specs.declared.entry.Verdict.TheVariants as verdicts
-use Rattle.norm_settings.specs.Settings.{PlainSettings}
+use Rattle.norm_settings.specs.SettingValues.{PlainSettings}
 use Rattle.retain_store.specs.Maps.{octet_in}
-use Rattle.reassembly.specs.Pieces.{Fragment}
-use Rattle.reassembly.specs.Laws.{IsOfPieces}
-use Rattle.reassembly.specs.Rows.{f_end, first_row, own_rows, view_of}
+use Rattle.reassembly.specs.DatagramFragments.{Fragment}
+use Rattle.reassembly.specs.CallLaws.{IsOfPieces}
+use Rattle.reassembly.specs.RuleRows.{f_end, first_row, own_rows, view_of}
 use Rattle.norm_engine.specs.Items.{Item}
 use Rattle.norm_engine.specs.Fragments.{completes, fragment_in, offering_of, pieces_before}
 use Rattle.norm_engine.specs.Trace.{Lawful}

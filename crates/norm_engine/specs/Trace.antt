@@ -7,7 +7,7 @@ use Rattle.wire_base.specs.declared.address.Side.{Side}
 use Rattle.wire_base.specs.declared.address.FlowKey.{FlowKey}
 use Rattle.wire_base.specs.Frames.{link_octets}
 use Rattle.icmp_codec.specs.declared.quote.QuotedKey.{QuotedKey}
-use Rattle.icmp_codec.specs.Quote.{quoted_in}
+use Rattle.icmp_codec.specs.QuotedPacket.{quoted_in}
 use Rattle.pcap_file.specs.Records.{Packet}
 use Rattle.rule_book.specs.declared.rule.Rule.{Rule}
 use Rattle.rule_book.specs.declared.rule.Rule.TheVariants as rules
@@ -15,19 +15,19 @@ use Rattle.rule_book.specs.declared.entry.Ended.{Ended}
 use Rattle.rule_book.specs.declared.entry.Verdict.{Verdict}
 use Rattle.rule_book.specs.declared.entry.Verdict.TheVariants as verdicts
 use Rattle.rule_book.specs.Rules.{Layer, drop_rows, fix_rows, layer_of, notes_outbound, step_rows}
-use Rattle.norm_settings.specs.Settings.{PlainSettings}
+use Rattle.norm_settings.specs.SettingValues.{PlainSettings}
 use Rattle.ip_rules.specs.Datagrams.{Datagram, goes_in, frames_of}
-use Rattle.ip_rules.specs.Rows.{holds_ip, tells_side}
-use Rattle.dgram_rules.specs.Rows.{holds_dgram}
+use Rattle.ip_rules.specs.RuleRows.{holds_ip, tells_side}
+use Rattle.dgram_rules.specs.RuleRows.{holds_dgram}
 use Rattle.tcp_norm.specs.Calls.{Call, Outcome, live}
-use Rattle.tcp_norm.specs.Views.{view_of}
-use Rattle.tcp_norm.specs.Rows.{holds_era}
+use Rattle.tcp_norm.specs.RuleViews.{view_of}
+use Rattle.tcp_norm.specs.RuleRows.{holds_era}
 use Rattle.tcp_norm.specs.Outcomes.{outcome_at, verdict_of}
 use Rattle.norm_engine.specs.Items.{Item}
-use Rattle.norm_engine.specs.Rows.{side_of_record, holds_tcp}
+use Rattle.norm_engine.specs.RuleRows.{side_of_record, holds_tcp}
 use Rattle.norm_engine.specs.Fragments.{Offering, i_ttl, holds_offered, offering_in, pieces_before}
 use Rattle.norm_engine.specs.Calls.{Past, past_of, datagram_after, segment_after}
-use Rattle.norm_engine.specs.Frames.{frame_by}
+use Rattle.norm_engine.specs.MessageFrames.{frame_by}
 
 -- the connection that an inbound error quotes, whose packet went outwards
 abbrev pub key_quoted : QuotedKey → FlowKey

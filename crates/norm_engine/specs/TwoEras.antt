@@ -3,17 +3,17 @@
 -- without a SYN after the first had ended by `idle` or `evicted`.
 use Rattle.std.specs.Prelude.{◌≡◌, ℕ, ◌≤◌, Bool, List, Some}
 use Rattle.wire_base.specs.declared.address.Link.{Link}
-use Rattle.norm_settings.specs.Settings.{PlainSettings}
+use Rattle.norm_settings.specs.SettingValues.{PlainSettings}
 use Rattle.receiver_model.specs.declared.member.Member.{Member}
-use Rattle.receiver_model.specs.Agreement.{IsMember}
+use Rattle.receiver_model.specs.FamilyAgreement.{IsMember}
 use Rattle.receiver_model.specs.Delivery.{DeliversInTime}
 use Rattle.era_state.specs.Quantities.{acked, base_of}
 use Rattle.era_agreement.specs.Agreement.{read_to}
-use Rattle.era_agreement.specs.Sent.{inward_packets, inward_places, written_in}
+use Rattle.era_agreement.specs.SentPackets.{inward_packets, inward_places, written_in}
 use Rattle.era_agreement.specs.TwoEras.{AreReadAsOne, GoesOn, GoesOnPast, IsAcknowledged, IsNotReadAgain}
 use Rattle.norm_engine.specs.Items.{Item}
 use Rattle.norm_engine.specs.Agreement.{sent_in}
-use Rattle.norm_engine.specs.Laws.{IsSound}
+use Rattle.norm_engine.specs.TraceLaws.{IsSound}
 
 -- Two eras of a trace; all that was written inwards in the first is acknowledged, and the base of
 -- the second is not before that. Then no octet of the second is at an offset that a receiver has

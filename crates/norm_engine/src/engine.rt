@@ -1,18 +1,27 @@
-//! The engine: each record of a capture is one step.
-use crate::entries::{blank_entry, renew, tell};
+//! The engine: each record of a capture is one step, which returns the record's entry.
+ghost use Rattle.std.specs.Prelude.{◌≡◌, None, []};
+ghost use Rattle.rule_book.specs.Entries.{plain};
+ghost use Rattle.tcp_codec.specs.declared.header.Tcp.{Tcp};
+ghost use Rattle.norm_engine.specs.working.RecordJudgment.{judgment_of};
+ghost use Rattle.norm_engine.specs.EngineState as spec;
+ghost use Rattle.norm_engine.specs.working.EngineAnswers as working;
+
 use crate::judge::{Decision, Parsed, judge};
 use crate::send::send;
+use arrayvec::ArrayVec;
 use edge_io::{NoMemory, Outbox};
+use ip_rules::IpPacket;
 use ip_rules::write::put_read;
 use norm_settings::Settings;
 use pcap_file::Record;
 use reassembly::Assembly;
-use rule_book::Entry;
+use rule_book::{Entry, Rule, Verdict};
 use std::alloc::Global;
 use std::marker::Model;
+use std::mem::swap;
 use tcp_norm::TcpNorm;
 use tcp_norm::laws::packets_are_its_own;
-use wire_base::{Link, MAX_PAYLOAD, link_octets};
+use wire_base::{Link, MAX_PAYLOAD, Side, link_octets};
 
 /// Judges the records of a capture, one after another. Allocates all its memory when it is opened.
 #[derive(Drop)]
@@ -34,8 +43,9 @@ pub struct Engine {
 
 impl Model for Engine {
     ghost use Rattle.std.specs.Prelude.{◌≡◌, vec_len};
-    ghost use Rattle.norm_settings.specs.Settings.{plain_settings, AreInRange};
-    ghost use Rattle.norm_engine.specs.Engine.{Engaged, Kept};
+    ghost use Rattle.norm_settings.specs.SettingValues.{plain_settings, AreInRange};
+    ghost use Rattle.norm_engine.specs.EngineState.{Engaged};
+    ghost use Rattle.norm_engine.specs.working.EngineAnswers.{Kept};
     ghost use Rattle.wire_base.specs.declared.limits.TheConstants.{MAX_PAYLOAD};
 
     ghost Value = { Engaged };
@@ -48,17 +58,16 @@ impl Model for Engine {
 impl Engine {
     ghost use Rattle.std.specs.Prelude.{◌≡◌, ◌<◌, ◌≤◌, ◌-◌, ◌^◌, true, List, [], ◌∷◌, length, IfOk};
     ghost use Rattle.wire_base.specs.declared.address.Link.TheVariants.{Raw};
-    ghost use Rattle.norm_settings.specs.Settings.{plain_settings, AreInRange};
-    ghost use Rattle.pcap_file.specs.Reads.{shown};
-    ghost use Rattle.rule_book.specs.Entries.{plain};
+    ghost use Rattle.norm_settings.specs.SettingValues.{plain_settings, AreInRange};
+    ghost use Rattle.pcap_file.specs.RecordReading.{shown};
     ghost use Rattle.tcp_norm.specs.Calls.{eras};
-    ghost use Rattle.tcp_norm.specs.Held.{held_all};
+    ghost use Rattle.tcp_norm.specs.HeldOctets.{held_all};
     ghost use Rattle.reassembly.specs.Calls.{gathered, cells_in};
     ghost use Rattle.norm_engine.specs.Items.{Item};
     ghost use Rattle.norm_engine.specs.Fragments.{piece_calls};
     ghost use Rattle.norm_engine.specs.Calls.{flow_calls};
     ghost use Rattle.norm_engine.specs.Trace.{item_of};
-    ghost use Rattle.norm_engine.specs.Engine.{StandsFor, frames_given};
+    ghost use Rattle.norm_engine.specs.EngineState.{StandsFor, frames_given};
     ghost use Rattle.wire_base.specs.declared.limits.TheConstants.{MAX_FRAME};
 
     /// Creates an engine for records of a raw link, before the first of them.
@@ -222,4 +231,85 @@ impl Engine {
             }
         }
     }
+}
+
+/// Returns an entry that a step fills.
+pub fn blank_entry() -> Entry
+    ensures { plain result ≡ spec.entry_written 0 None [] [] }
+{
+    Entry {
+        number: 0,
+        side: None,
+        verdict: Verdict::Pass,
+        packets: 1,
+        rules: ArrayVec::new(),
+        era: None,
+        begun: None,
+        ended: ArrayVec::new(),
+    }
+}
+
+// Makes this the entry of the record with this number, before it is judged.
+#[inline(always)]
+fn renew(entry: &mut Entry, number: u32)
+    ensures { plain entry.new ≡ spec.entry_written number None [] [] }
+{
+    entry.number = number;
+    entry.side = None;
+    entry.verdict = Verdict::Pass;
+    entry.packets = 1;
+    // It is cheaper than `clear`, which writes each rule.
+    entry.rules = ArrayVec::new();
+    entry.era = None;
+    entry.begun = None;
+    entry.ended.clear();
+}
+
+// Fills the entry of a record with this decision, which is not a segment, and moves the rules of
+// its packet there. Its number and the eras that ended stay.
+#[inline(always)]
+fn tell(decision: Decision, packet: &mut IpPacket<'_>, entry: &mut Entry)
+    requires rules { entry.old.rules.items ≡ [] }
+    requires era { entry.old.era ≡ None }
+    requires begun { entry.old.begun ≡ None }
+    ensures { (head : Tcp) → plain entry.new ≡ working.entry_for entry.old.number (judgment_of packet.old head decision) entry.old.ended.items }
+{
+    match decision {
+        Decision::Arp => written(None, entry),
+        Decision::Drop(side, rule) => stopped(side, Verdict::Drop, rule, entry),
+        Decision::Hold(side) => stopped(Some(side), Verdict::Hold, Rule::FHeld, entry),
+        Decision::Send(_) => {
+            swap(&mut entry.rules, &mut packet.fixes);
+            written(Some(packet.side), entry);
+        }
+        Decision::Segment => written(Some(packet.side), entry),
+    }
+}
+
+// Fills the entry of a record that is written, rewritten by its rules.
+fn written(side: Option<Side>, entry: &mut Entry)
+    requires era { entry.old.era ≡ None }
+    requires begun { entry.old.begun ≡ None }
+    ensures { plain entry.new ≡ spec.entry_written entry.old.number side entry.old.rules.items entry.old.ended.items }
+{
+    entry.verdict = if entry.rules.is_empty() {
+        Verdict::Pass
+    } else {
+        Verdict::Fix
+    };
+    entry.side = side;
+    entry.packets = 1;
+}
+
+// Fills the entry of a record for which nothing is written, by this rule alone.
+fn stopped(side: Option<Side>, verdict: Verdict, rule: Rule, entry: &mut Entry)
+    requires rules { entry.old.rules.items ≡ [] }
+    requires era { entry.old.era ≡ None }
+    requires begun { entry.old.begun ≡ None }
+    ensures { plain entry.new ≡ working.entry_stopped entry.old.number side verdict rule entry.old.ended.items }
+{
+    entry.side = side;
+    entry.verdict = verdict;
+    entry.packets = 0;
+    entry.rules.push(rule);
 }

@@ -1,22 +1,22 @@
 //! The judgment of a record by the rules before those of eras, in the order of testing.
 ghost use Rattle.std.specs.Prelude.{◌≡◌, ◌<◌, ◌≤◌, ◌^◌, ◌==◌, ◌&&◌, ◌||◌, not, true, ℕ, List, [], ◌∷◌, All, length, Some};
-ghost use Rattle.norm_settings.specs.Settings.{PlainSettings, plain_settings};
-ghost use Rattle.pcap_file.specs.Reads.{shown};
-ghost use Rattle.icmp_codec.specs.Quote.{quoted_in};
-ghost use Rattle.tcp_codec.specs.Header.{is_judged};
+ghost use Rattle.norm_settings.specs.SettingValues.{PlainSettings, plain_settings};
+ghost use Rattle.pcap_file.specs.RecordReading.{shown};
+ghost use Rattle.icmp_codec.specs.QuotedPacket.{quoted_in};
+ghost use Rattle.tcp_codec.specs.HeaderFields.{is_judged};
 ghost use Rattle.ip_rules.specs.Datagrams.{AreOctets, datagram_with, goes_in};
 ghost use Rattle.tcp_norm.specs.Calls.{Call};
-ghost use Rattle.tcp_norm.specs.Standing as flows;
-ghost use Rattle.reassembly.specs.Pieces.{fragment_of, IsPiece};
+ghost use Rattle.tcp_norm.specs.TableAndStore as flows;
+ghost use Rattle.reassembly.specs.DatagramFragments.{fragment_of, IsPiece};
 ghost use Rattle.reassembly.specs.Calls as reassembly;
-ghost use Rattle.reassembly.specs.Assemblies as fragments;
-ghost use Rattle.reassembly.specs.Rows.{answer_at, call_of};
+ghost use Rattle.reassembly.specs.AssemblyState as fragments;
+ghost use Rattle.reassembly.specs.RuleRows.{answer_at, call_of};
 ghost use Rattle.norm_engine.specs.Fragments.{fragment_with, fragment_in, offering_of, with_offered};
 ghost use Rattle.norm_engine.specs.Calls.{Past};
 ghost use Rattle.norm_engine.specs.Trace.{is_quoted_live};
-ghost use Rattle.norm_engine.specs.Judged.{judged_with};
-ghost use Rattle.norm_engine.specs.Judgment.{judgment_of, judgment_with};
-ghost use Rattle.norm_engine.specs.Engine as spec;
+ghost use Rattle.norm_engine.specs.working.DatagramJudgment.{judged_with};
+ghost use Rattle.norm_engine.specs.working.RecordJudgment.{judgment_of, judgment_with};
+ghost use Rattle.norm_engine.specs.working.EngineAnswers as spec;
 ghost use Rattle.wire_base.specs.declared.limits.TheConstants.{MAX_PAYLOAD};
 ghost use Rattle.rule_book.specs.declared.entry.TheConstants.{MAX_NAMED};
 
@@ -24,7 +24,7 @@ use dgram_rules::laws::{datagrams_tell_the_rows, others_have_no_row};
 use dgram_rules::{DgramJudged, judge_icmp, judge_udp};
 use icmp_codec::quoted;
 use ip_rules::laws::datagrams_are_known;
-use ip_rules::{IpKind, IpPacket, judge_ip_into};
+use ip_rules::{IpKind, IpPacket, has_low_ttl, judge_ip_into};
 use norm_settings::Settings;
 use pcap_file::Record;
 use reassembly::{Assembly, Offered, Piece, Whole};
@@ -199,7 +199,7 @@ fn make_whole<'a>(whole: &Whole, octets: &'a [u8], hops: u8, packet: &mut IpPack
     packet.head.offset = 0;
     packet.head.ttl = whole.ttl;
     packet.payload = octets;
-    if packet.side == Side::Inward && whole.ttl <= hops {
+    if has_low_ttl(hops, packet.side, whole.ttl) {
         packet.fixes.push(Rule::ITtl);
     }
     packet.fixes.push(Rule::FDone);

@@ -1,14 +1,14 @@
 //! Laws of lawful traces.
-ghost use Rattle.norm_engine.specs.Brought.{ConsistentIsWithoutClash, LawfulClashesAreReal, LawfulInventsNothing};
-ghost use Rattle.norm_engine.specs.Given.{LawfulReadsRecords};
+ghost use Rattle.norm_engine.specs.BroughtOctets.{ConsistentIsWithoutClash, LawfulClashesAreReal, LawfulInventsNothing};
+ghost use Rattle.norm_engine.specs.GivenOctets.{LawfulReadsRecords};
 ghost use Rattle.norm_engine.specs.HeldFragments.{LawfulFragmentClashesAreReal, LawfulJoinsHeld};
-ghost use Rattle.norm_engine.specs.Certain.{ItemsAreCertain, LawfulIsEmitted};
-ghost use Rattle.norm_engine.specs.Laws.{ItemsAreCounted, LawfulAgrees, LawfulCallsAreMade, LawfulIsOfOneStream, LawfulIsOne, LawfulIsWithin, LawfulKeepsClean, LawfulLeavesRoom, LawfulMissesNothing, LawfulReadsOneStream, LawfulStaysNearAcks, LawfulTellsStreams};
-ghost use Rattle.norm_engine.specs.Outgoing.{ItemsGoOut};
-ghost use Rattle.norm_engine.specs.Recorded.{LawfulWasReadSo};
+ghost use Rattle.norm_engine.specs.CertainReading.{ItemsAreCertain, LawfulIsEmitted};
+ghost use Rattle.norm_engine.specs.TraceLaws.{ItemsAreCounted, LawfulAgrees, LawfulCallsAreMade, LawfulIsOfOneStream, LawfulIsOne, LawfulIsWithin, LawfulKeepsClean, LawfulLeavesRoom, LawfulMissesNothing, LawfulReadsOneStream, LawfulStaysNearAcks, LawfulTellsStreams};
+ghost use Rattle.norm_engine.specs.OutgoingFrames.{ItemsGoOut};
+ghost use Rattle.norm_engine.specs.RecordedHost.{LawfulWasReadSo};
 ghost use Rattle.norm_engine.specs.TwoEras.{LawfulErasGoOn};
-ghost use Rattle.norm_engine.specs.Waiting.{WaitingIsFew, WaitingIsKept};
-ghost use Rattle.norm_engine.specs.Sending.{LawfulIsPlainInwards, LawfulIsShort, PlainIsReadAlike};
+ghost use Rattle.norm_engine.specs.MonitorMemory.{WaitingIsFew, WaitingIsKept};
+ghost use Rattle.norm_engine.specs.SentFrames.{LawfulIsPlainInwards, LawfulIsShort, PlainIsReadAlike};
 
 use era_agreement::laws::{
     emitted_agrees, emitted_misses_nothing, emitted_reads_one_stream, emitted_stays_near_acks,

@@ -22,10 +22,8 @@
 #![tactic(auto)]
 
 pub mod engine;
-mod entries;
 mod judge;
 pub mod laws;
 mod send;
 
-pub use engine::Engine;
-pub use entries::blank_entry;
+pub use engine::{Engine, blank_entry};

@@ -1,11 +1,12 @@
 //! The frames written for a record that is not a segment, by its judgment.
 ghost use Rattle.std.specs.Prelude.{◌≡◌, ◌+◌, ◌<◌, ◌≤◌, ◌^◌, true, ℕ, List, [], ◌∷◌, ◌++◌, length};
 ghost use Rattle.ip_rules.specs.Datagrams.{datagram_with};
-ghost use Rattle.dgram_rules.specs.Rows.{pseudo_of};
-ghost use Rattle.udp_codec.specs.Checksum.{mended};
+ghost use Rattle.dgram_rules.specs.RuleRows.{pseudo_of};
+ghost use Rattle.udp_codec.specs.WrittenChecksum.{mended};
 ghost use Rattle.tcp_codec.specs.declared.header.Tcp.{Tcp};
-ghost use Rattle.norm_engine.specs.Judgment.{judgment_of};
-ghost use Rattle.norm_engine.specs.Engine as spec;
+ghost use Rattle.norm_engine.specs.working.RecordJudgment.{judgment_of};
+ghost use Rattle.norm_engine.specs.EngineState as spec;
+ghost use Rattle.norm_engine.specs.working.EngineAnswers as working;
 ghost use Rattle.wire_base.specs.declared.limits.TheConstants.{MAX_PAYLOAD};
 
 use crate::judge::Decision;
@@ -29,11 +30,11 @@ pub fn send(
     requires empty { out.old ≡ [] }
     requires room { MAX_PAYLOAD ≤ length scratch.old }
     requires hops { hops ≤ 254 }
-    requires fits { spec.Fits packet.now decision }
-    ensures as_read { (head : Tcp) → result ≡ spec.is_as_read (judgment_of packet.now head decision) }
+    requires fits { working.Fits packet.now decision }
+    ensures as_read { (head : Tcp) → result ≡ working.is_as_read (judgment_of packet.now head decision) }
     ensures empty { result ≡ true → out.new ≡ [] }
     ensures frames { (head : Tcp) (octets : List ℕ) →
-        spec.frames_given result octets out.new ≡ spec.frames_for (judgment_of packet.now head decision) hops link octets }
+        spec.frames_given result octets out.new ≡ working.frames_for (judgment_of packet.now head decision) hops link octets }
 {
     match decision {
         Decision::Arp => true,
@@ -61,7 +62,7 @@ fn send_mended(
     requires hops { hops ≤ 254 }
     requires fits { length packet.now.payload.now ≤ MAX_PAYLOAD }
     requires whole { mend ≡ true → 8 ≤ length packet.now.payload.now }
-    ensures { out.new ≡ spec.frame_for packet.now mend hops link ∷ [] }
+    ensures { out.new ≡ working.frame_for packet.now mend hops link ∷ [] }
 {
     let head = head_sent(packet, hops);
     let before = link_octets(link, packet.frame);

@@ -1,6 +1,6 @@
 use Rattle.std.proofs.Common.{sym, ap, ◌∙◌, ◌==◌, ◌||◌, not, None, Some, if◌then◌else◌}
 use Rattle.ipv4_codec.specs.declared.header.Ipv4.{Ipv4}
-use Rattle.ipv4_codec.specs.Options.{facts_of}
+use Rattle.ipv4_codec.specs.OptionFacts.{facts_of}
 use Rattle.rule_book.specs.declared.rule.Rule.TheVariants as rules
 use Rattle.ip_rules.proofs.Rules.{bad_options, read_options}
 use Rattle.ip_rules.proofs.rows.content_row.Goals as goal

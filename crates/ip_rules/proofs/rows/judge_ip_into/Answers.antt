@@ -1,9 +1,9 @@
 use Rattle.std.proofs.Common.{sym, ap, None, if◌then◌else◌}
 use Rattle.wire_base.specs.Frames.{packet_in}
-use Rattle.pcap_file.specs.Reads.{shown}
-use Rattle.norm_settings.specs.Settings.{plain_settings}
-use Rattle.ip_rules.specs.Rows.{side_in}
-use Rattle.ip_rules.specs.Judged.{judged_with}
+use Rattle.pcap_file.specs.RecordReading.{shown}
+use Rattle.norm_settings.specs.SettingValues.{plain_settings}
+use Rattle.ip_rules.specs.RuleRows.{side_in}
+use Rattle.ip_rules.specs.JudgedRecord.{judged_with}
 use Rattle.ip_rules.proofs.Rules.{dropped_early, link_is_early, arp_passes, judged_here}
 use Rattle.ip_rules.proofs.rows.judge_ip_into.Goals as goal
 

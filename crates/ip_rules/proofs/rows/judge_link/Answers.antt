@@ -1,5 +1,5 @@
 use Rattle.std.proofs.Common.{sym, ◌∙◌}
-use Rattle.pcap_file.specs.Reads.{shown}
+use Rattle.pcap_file.specs.RecordReading.{shown}
 use Rattle.ip_rules.proofs.Rules.{snapped, is_short, is_other, is_arp, is_long_arp, is_ip}
 use Rattle.ip_rules.proofs.rows.judge_link.Goals as goal
 

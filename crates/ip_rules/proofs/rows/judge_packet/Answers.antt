@@ -1,6 +1,6 @@
 use Rattle.std.proofs.Common.{refl, sym, ap, ◌∙◌, Some, None, Ok, Err, if◌then◌else◌}
-use Rattle.norm_settings.specs.Settings.{plain_settings}
-use Rattle.ip_rules.specs.Rows.{side_in, tells_side}
+use Rattle.norm_settings.specs.SettingValues.{plain_settings}
+use Rattle.ip_rules.specs.RuleRows.{side_in, tells_side}
 use Rattle.ip_rules.proofs.Rules.{faulty_row, late_row, side_told, fault_is_early, address_is_early, content_is_late}
 use Rattle.ip_rules.proofs.rows.judge_packet.Goals as goal
 

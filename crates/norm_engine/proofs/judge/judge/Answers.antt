@@ -1,14 +1,14 @@
 use Rattle.std.proofs.Common.{◌≡◌, ◌^◌, ◌<◌, ◌≤◌, ◌==◌, ◌||◌, true, false, [], length, Some, None, refl, sym, subst, arith}
-use Rattle.norm_settings.specs.Settings.{plain_settings}
-use Rattle.pcap_file.specs.Reads.{shown}
+use Rattle.norm_settings.specs.SettingValues.{plain_settings}
+use Rattle.pcap_file.specs.RecordReading.{shown}
 use Rattle.wire_base.specs.Ipv4 as ip
 use Rattle.wire_base.specs.Frames.{packet_in}
 use Rattle.ipv4_codec.specs.declared.header.Ipv4.{Ipv4}
-use Rattle.reassembly.specs.Assemblies as fragments
+use Rattle.reassembly.specs.AssemblyState as fragments
 use Rattle.ip_rules.proofs.Datagrams.{packet_octets}
 use Rattle.ip_rules.proofs.Lists.{two_below}
 use Rattle.ip_rules.proofs.Rules.{arp_is_no_ip}
-use Rattle.norm_engine.specs.Judgment.{judgment_with}
+use Rattle.norm_engine.specs.working.RecordJudgment.{judgment_with}
 use Rattle.norm_engine.proofs.Judgments.{arp_passes, row_drops, own, stands_in, carried_made, whole_judged}
 use Rattle.norm_engine.proofs.Fragments.{none_called, piece_judged, piece_called, is_piece}
 use Rattle.norm_engine.proofs.Frames.{kept_packet, few_fixes, few_parts, payload_fits}

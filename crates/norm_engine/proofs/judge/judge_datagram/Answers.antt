@@ -1,11 +1,11 @@
 use Rattle.std.proofs.Common.{◌≡◌, ◌≢◌, ◌==◌, rules, sym, ap, subst, ◌∙◌, arith}
-use Rattle.norm_settings.specs.Settings.{plain_settings}
-use Rattle.icmp_codec.specs.Quote.{quoted_in}
+use Rattle.norm_settings.specs.SettingValues.{plain_settings}
+use Rattle.icmp_codec.specs.QuotedPacket.{quoted_in}
 use Rattle.ip_rules.specs.Datagrams.{datagram_with}
-use Rattle.dgram_rules.specs.Judged.{udp_judged, icmp_judged}
+use Rattle.dgram_rules.specs.JudgedDatagram.{udp_judged, icmp_judged}
 use Rattle.norm_engine.specs.Trace.{is_quoted_live}
-use Rattle.norm_engine.specs.Judged.{judged_with}
-use Rattle.norm_engine.specs.Engine as spec
+use Rattle.norm_engine.specs.working.DatagramJudgment.{judged_with}
+use Rattle.norm_engine.specs.working.EngineAnswers as spec
 use Rattle.norm_engine.proofs.Layers.{by_tells, by_header, tells_of, six_is_left, no_head, read_head}
 use Rattle.norm_engine.proofs.judge.judge_datagram.Goals as goal
 

@@ -1,11 +1,11 @@
 use Rattle.std.proofs.Common.{rules, [], ◌∷◌, subst}
-use Rattle.norm_settings.specs.Settings.{plain_settings}
+use Rattle.norm_settings.specs.SettingValues.{plain_settings}
 use Rattle.ip_rules.specs.Datagrams.{HasSizes}
-use Rattle.reassembly.specs.Pieces.{Fragment}
-use Rattle.reassembly.specs.Assemblies as fragments
-use Rattle.reassembly.specs.Rows.{call_of}
+use Rattle.reassembly.specs.DatagramFragments.{Fragment}
+use Rattle.reassembly.specs.AssemblyState as fragments
+use Rattle.reassembly.specs.RuleRows.{call_of}
 use Rattle.norm_engine.specs.Fragments.{fragment_with}
-use Rattle.norm_engine.specs.Judgment.{judgment_with}
+use Rattle.norm_engine.specs.working.RecordJudgment.{judgment_with}
 use Rattle.norm_engine.proofs.Fragments.{held_judged, dropped_judged, done_judged}
 use Rattle.norm_engine.proofs.judge.judge_piece.Goals as goal
 

@@ -1,6 +1,6 @@
 use Rattle.std.proofs.Common.{[], sym, subst}
-use Rattle.norm_engine.specs.Engine as spec
-use Rattle.norm_engine.specs.Judged.{judged_with}
+use Rattle.norm_engine.specs.working.EngineAnswers as spec
+use Rattle.norm_engine.specs.working.DatagramJudgment.{judged_with}
 use Rattle.norm_engine.proofs.Judgments.{head_read}
 use Rattle.norm_engine.proofs.judge.judge_whole.Goals as goal
 

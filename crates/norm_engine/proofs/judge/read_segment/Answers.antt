@@ -2,21 +2,22 @@
 -- tested.
 use Rattle.std.proofs.Common.{◌≡◌, ℕ, ◌≤◌, Bool, true, false, ◌&&◌, not, cond, length, Option, Some, None, Ok, Err, refl, sym, ap, ap₂, ◌∙◌, option_map, slice_range}
 use Rattle.std.proofs.Math.Bool.{and_comm}
-use Rattle.wire_base.specs.Reading.{value_or_fault}
+use Rattle.wire_base.specs.ParseResults.{value_or_fault}
 use Rattle.wire_base.specs.Tcp as tcp
 use Rattle.wire_base.specs.Options.{are_well_formed}
 use Rattle.tcp_codec.specs.declared.header.Tcp.{Tcp}
 use Rattle.tcp_codec.specs.declared.header.SumRule.{SumRule}
 use Rattle.tcp_codec.specs.declared.header.TcpFault.{TcpFault}
 use Rattle.tcp_codec.specs.declared.header.TcpFault.TheVariants as faults
-use Rattle.tcp_codec.specs.Header.{is_judged, fields_of, fault_of, parsed}
+use Rattle.tcp_codec.specs.HeaderFields.{is_judged, fields_of, fault_of, parsed}
 use Rattle.rule_book.specs.declared.rule.Rule.{Rule}
-use Rattle.norm_settings.specs.Settings.{PlainSettings, plain_settings}
+use Rattle.norm_settings.specs.SettingValues.{PlainSettings, plain_settings}
 use Rattle.ip_rules.specs.Datagrams.{Datagram, datagram_with}
-use Rattle.dgram_rules.specs.Rows.{pseudo_of, is_offloaded}
-use Rattle.norm_engine.specs.Judged as judged
-use Rattle.norm_engine.specs.Rows.{t_short, t_hlen, t_sum, t_flags, t_opt_bad, segment_row}
-use Rattle.norm_engine.specs.Engine.{rule_of, IsReadSegment}
+use Rattle.dgram_rules.specs.RuleRows.{pseudo_of, is_offloaded}
+use Rattle.norm_engine.specs.working.DatagramJudgment as judged
+use Rattle.norm_engine.specs.RuleRows.{t_short, t_hlen, t_sum, t_flags, t_opt_bad}
+use Rattle.norm_engine.specs.working.FirstRow.{segment_row}
+use Rattle.norm_engine.specs.working.EngineAnswers.{rule_of, IsReadSegment}
 use Rattle.norm_engine.proofs.judge.read_segment.Goals as goal
 
 -- a fault and those tested after it are the rule of its test and those tested after it

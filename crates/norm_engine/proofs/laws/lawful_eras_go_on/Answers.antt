@@ -1,4 +1,4 @@
-use Rattle.norm_engine.proofs.ErasInTurn.{eras_go_on}
+use Rattle.norm_engine.proofs.EraReadings.{eras_go_on}
 use Rattle.norm_engine.proofs.laws.lawful_eras_go_on.Goals as goal
 
 pub returns : goal.returns

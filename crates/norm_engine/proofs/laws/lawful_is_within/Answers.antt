@@ -2,7 +2,7 @@ use Rattle.std.proofs.Common.{List}
 use Rattle.norm_engine.specs.Fragments.{piece_calls}
 use Rattle.norm_engine.specs.Items.{Item}
 use Rattle.norm_engine.specs.Calls.{flow_calls}
-use Rattle.norm_engine.specs.Laws.{IsSound, IsWithin}
+use Rattle.norm_engine.specs.TraceLaws.{IsSound, IsWithin}
 use Rattle.norm_engine.proofs.Traces.{always_within, pieces_answered}
 use Rattle.norm_engine.proofs.laws.lawful_is_within.Goals as goal
 

@@ -1,4 +1,4 @@
-use Rattle.norm_engine.proofs.GivenOctets.{lawful_reads_records}
+use Rattle.norm_engine.proofs.EraReadings.{lawful_reads_records}
 use Rattle.norm_engine.proofs.laws.lawful_reads_records.Goals as goal
 
 pub returns : goal.returns

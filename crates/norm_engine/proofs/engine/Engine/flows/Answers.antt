@@ -1,11 +1,11 @@
 use Rattle.std.proofs.Common.{◌≤◌, length, sym, ap, subst, ◌∙◌}
 use Rattle.std.proofs.Math.Logic.{∥∥₁_elim}
 use Rattle.std.specs.Coded.{le_prop}
-use Rattle.norm_settings.specs.Settings.{plain_settings}
+use Rattle.norm_settings.specs.SettingValues.{plain_settings}
 use Rattle.tcp_norm.specs.Calls.{eras}
-use Rattle.tcp_norm.specs.Standing as flows
+use Rattle.tcp_norm.specs.TableAndStore as flows
 use Rattle.norm_engine.specs.Calls.{flow_calls}
-use Rattle.norm_engine.specs.Engine.{Engaged}
+use Rattle.norm_engine.specs.EngineState.{Engaged}
 use Rattle.norm_engine.proofs.engine.Engine.flows.Goals as goal
 
 pub returns-clause-number : goal.returns-clause-number

@@ -1,11 +1,11 @@
 use Rattle.std.proofs.Common.{◌≤◌, sym, ap, subst, ◌∙◌}
 use Rattle.std.proofs.Math.Logic.{∥∥₁_elim}
 use Rattle.std.specs.Coded.{le_prop}
-use Rattle.norm_settings.specs.Settings.{plain_settings}
+use Rattle.norm_settings.specs.SettingValues.{plain_settings}
 use Rattle.reassembly.specs.Calls.{gathered, cells_in}
-use Rattle.reassembly.specs.Assemblies as fragments
+use Rattle.reassembly.specs.AssemblyState as fragments
 use Rattle.norm_engine.specs.Fragments.{piece_calls}
-use Rattle.norm_engine.specs.Engine.{Engaged}
+use Rattle.norm_engine.specs.EngineState.{Engaged}
 use Rattle.norm_engine.proofs.engine.Engine.frag_cells.Goals as goal
 
 pub returns-clause-number : goal.returns-clause-number

@@ -2,30 +2,30 @@ use Rattle.std.proofs.Common.{rules, ◌≡◌, ◌<◌, ◌≤◌, ◌+◌, ◌
 use Rattle.std.proofs.Math.Logic.{∥∥₁_map, ∥∥₁_elim}
 use Rattle.std.specs.Coded.{le_prop}
 use Rattle.std.proofs.Math.Nat.{ℕ_set}
-use Rattle.wire_base.specs.Sums.{pseudo_sum}
+use Rattle.wire_base.specs.Checksums.{pseudo_sum}
 use Rattle.ipv4_codec.specs.declared.header.Ipv4.{Ipv4}
-use Rattle.tcp_codec.specs.Header.{fields_of}
-use Rattle.ip_rules.specs.Datagrams.{IsDatagram}
-use Rattle.norm_settings.specs.Settings.{plain_settings}
-use Rattle.pcap_file.specs.Reads.{shown}
+use Rattle.tcp_codec.specs.HeaderFields.{fields_of}
+use Rattle.ip_rules.specs.Datagrams.{IsDatagram, frames_of}
+use Rattle.norm_settings.specs.SettingValues.{plain_settings}
+use Rattle.pcap_file.specs.RecordReading.{shown}
 use Rattle.rule_book.specs.declared.entry.Entry.{Entry}
 use Rattle.rule_book.specs.Entries.{PlainEntry, plain}
-use Rattle.ip_rules.specs.Datagrams.{frames_of}
-use Rattle.ip_rules.specs.declared.judged.IpPacket.{IpPacket}
+use Rattle.ip_rules.specs.declared.rows.IpPacket.{IpPacket}
 use Rattle.tcp_codec.specs.declared.header.Tcp.{Tcp}
 use Rattle.tcp_norm.specs.Calls.{segments}
-use Rattle.tcp_norm.specs.Views.{idle_at}
-use Rattle.tcp_norm.specs.Steps.{idled}
-use Rattle.norm_engine.specs.Judgment.{Segment, judgment_with}
-use Rattle.tcp_norm.specs.Standing as flows
+use Rattle.tcp_norm.specs.RuleViews.{idle_at}
+use Rattle.tcp_norm.specs.IdleEnds.{idled}
+use Rattle.norm_engine.specs.working.RecordJudgment.{Segment, judgment_with}
+use Rattle.tcp_norm.specs.TableAndStore as flows
 use Rattle.reassembly.specs.Calls as reassembly
-use Rattle.reassembly.specs.Assemblies as fragments
+use Rattle.reassembly.specs.AssemblyState as fragments
 use Rattle.tcp_norm.specs.Outcomes.{expiry_of, call_of}
 use Rattle.norm_engine.specs.Items.{Item, now_with}
 use Rattle.norm_engine.specs.Fragments.{fragment_in, piece_calls, with_offered}
 use Rattle.norm_engine.specs.Calls.{flow_calls}
 use Rattle.norm_engine.specs.Trace.{Read, item_of, read_after, outcome_of}
-use Rattle.norm_engine.specs.Engine.{Engaged, Judges, Kept, IsTaken, StandsFor, read_with, entry_for, frames_given}
+use Rattle.norm_engine.specs.EngineState.{Engaged, StandsFor, frames_given}
+use Rattle.norm_engine.specs.working.EngineAnswers.{Judges, Kept, IsTaken, read_with, entry_for}
 use Rattle.norm_engine.proofs.Items.{segment_entry, segment_frames, taken_rows, other_entry}
 use Rattle.norm_engine.proofs.EngineStates.{past_with, as_given, unsent_of, few_idle, room_for, no_segment, no_segment_of, short_read, other_frames, pieces_stand, segment_stands, other_stands}
 use Rattle.norm_engine.proofs.engine.Engine.step_into.Goals as goal

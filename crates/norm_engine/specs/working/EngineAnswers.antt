@@ -1,4 +1,4 @@
--- The state of the engine, and the meaning of its answers for a record.
+-- The meaning of the engine's judgments and answers for a record.
 use Rattle.std.specs.Prelude.{◌≡◌, ℕ, ◌≤◌, ◌==◌, ◌&&◌, nat_le, Bool, true, false, List, [], ◌∷◌, ◌++◌, length, Option, Some, None, find, if◌then◌else◌}
 use Rattle.std.specs.Option.{option_or}
 use Rattle.wire_base.specs.declared.address.Link.{Link}
@@ -8,9 +8,9 @@ use Rattle.pcap_file.specs.Records.{Packet}
 use Rattle.tcp_codec.specs.declared.header.Tcp.{Tcp}
 use Rattle.tcp_codec.specs.declared.header.TcpFault.{TcpFault}
 use Rattle.tcp_codec.specs.declared.header.TcpFault.TheVariants as faults
-use Rattle.tcp_codec.specs.Header.{fields_of}
-use Rattle.udp_codec.specs.Checksum.{mended}
-use Rattle.icmp_codec.specs.Quote.{quoted_in}
+use Rattle.tcp_codec.specs.HeaderFields.{fields_of}
+use Rattle.udp_codec.specs.WrittenChecksum.{mended}
+use Rattle.icmp_codec.specs.QuotedPacket.{quoted_in}
 use Rattle.rule_book.specs.declared.rule.Rule.{Rule}
 use Rattle.rule_book.specs.declared.rule.Rule.TheVariants as rules
 use Rattle.rule_book.specs.declared.entry.Ended.{Ended}
@@ -18,57 +18,38 @@ use Rattle.rule_book.specs.declared.entry.Verdict.{Verdict}
 use Rattle.rule_book.specs.declared.entry.Verdict.TheVariants as verdicts
 use Rattle.rule_book.specs.Rules.{segment_rows}
 use Rattle.rule_book.specs.Entries.{PlainEntry}
-use Rattle.norm_settings.specs.Settings.{PlainSettings}
-use Rattle.ip_rules.specs.declared.judged.IpPacket.{IpPacket}
-use Rattle.ip_rules.specs.Rows.{tells_side}
+use Rattle.norm_settings.specs.SettingValues.{PlainSettings}
+use Rattle.ip_rules.specs.declared.rows.IpPacket.{IpPacket}
+use Rattle.ip_rules.specs.RuleRows.{tells_side}
 use Rattle.ip_rules.specs.Datagrams.{Datagram, datagram_with, goes_in, head_at, AreOctets, HasSizes, IsDatagram, IsKnown}
-use Rattle.ip_rules.specs.Judged.{where_holds}
-use Rattle.ipv4_codec.specs.Write.{plain_header}
+use Rattle.ip_rules.specs.JudgedRecord.{where_holds}
+use Rattle.ipv4_codec.specs.WrittenHeader.{plain_header}
 use Rattle.dgram_rules.specs.declared.judged.DgramJudged.{DgramJudged}
 use Rattle.dgram_rules.specs.declared.judged.DgramJudged.TheVariants as dgram
-use Rattle.dgram_rules.specs.Rows.{pseudo_of, holds_dgram, dgram_dropped_by}
+use Rattle.dgram_rules.specs.RuleRows.{pseudo_of, holds_dgram, dgram_dropped_by}
 use Rattle.tcp_norm.specs.declared.state.TcpNorm.{TcpNorm}
 use Rattle.tcp_norm.specs.Calls.{Call}
-use Rattle.tcp_norm.specs.Standing as flows
-use Rattle.tcp_norm.specs.Heads.{IsHead}
-use Rattle.tcp_norm.specs.Views.{view_of}
-use Rattle.tcp_norm.specs.Outcomes.{verdict_of}
-use Rattle.tcp_norm.specs.Rows as era
+use Rattle.tcp_norm.specs.TableAndStore as flows
+use Rattle.tcp_norm.specs.SegmentHeads.{IsHead}
+use Rattle.tcp_norm.specs.RuleViews.{view_of}
+use Rattle.tcp_norm.specs.RuleRows as era
 use Rattle.norm_engine.specs.declared.judge.Decision.{Decision}
 use Rattle.norm_engine.specs.declared.judge.Decision.TheVariants as decisions
-use Rattle.norm_engine.specs.Judgment.{Judgment}
-use Rattle.norm_engine.specs.Judgment.{Arp, Drop, Hold, Send, Segment}
-use Rattle.norm_engine.specs.Judged.{Judged}
-use Rattle.norm_engine.specs.Judged as judged
+use Rattle.norm_engine.specs.working.RecordJudgment.{Judgment, Arp, Drop, Hold, Send, Segment}
+use Rattle.norm_engine.specs.working.DatagramJudgment.{Judged}
+use Rattle.norm_engine.specs.working.DatagramJudgment as judged
 use Rattle.reassembly.specs.declared.assembly.Assembly.{Assembly}
 use Rattle.reassembly.specs.declared.piece.Whole.{Whole}
-use Rattle.reassembly.specs.Pieces.{whole_of, datagram_octets}
+use Rattle.reassembly.specs.DatagramFragments.{whole_of, datagram_octets}
 use Rattle.reassembly.specs.Calls as reassembly
-use Rattle.reassembly.specs.Assemblies as fragments
-use Rattle.norm_engine.specs.Items.{Item, now_at}
-use Rattle.norm_engine.specs.Fragments.{Offering, piece_calls, offering_in, pieces_with, head_of_whole}
-use Rattle.norm_engine.specs.Rows.{side_of_record, segment_row, holds_tcp, is_segment}
-use Rattle.norm_engine.specs.Calls.{Past, flow_calls, where_passes, datagram_by}
+use Rattle.reassembly.specs.AssemblyState as fragments
+use Rattle.norm_engine.specs.Fragments.{Offering, offering_in, pieces_with, head_of_whole}
+use Rattle.norm_engine.specs.RuleRows.{side_of_record, holds_tcp, is_segment}
+use Rattle.norm_engine.specs.working.FirstRow.{segment_row}
+use Rattle.norm_engine.specs.Calls.{Past, where_passes, datagram_by}
 use Rattle.norm_engine.specs.Trace.{Read, is_held, is_quoted_live, dropped_by, noted_rows, named_rows}
 use Rattle.wire_base.specs.declared.limits.TheConstants.{MAX_FRAME, MAX_PAYLOAD}
-
--- an engine as contracts see it: its settings, its link type, the number of records so far, the
--- greatest time of them in seconds, its connections, and the datagrams with held fragments
-pub record Engaged : Type 0 where
-  pub settings : PlainSettings
-  pub link : Link
-  pub records : ℕ
-  pub latest : ℕ
-  pub norm : TcpNorm
-  pub pieces : Assembly
-
--- The engine represents the history: it has counted its items, holds the greatest time of their
--- records, and its connections and its fragments represent the calls that the history makes.
-pub record StandsFor (engine : Engaged) (history : List Item) : Type 0 where
-  pub counted : engine.records ≡ length history
-  pub latest : engine.latest ≡ now_at history
-  pub flows : flows.StandsFor engine.settings engine.norm (flow_calls engine.settings engine.link history)
-  pub pieces : fragments.StandsFor engine.settings engine.pieces (piece_calls engine.settings engine.link history)
+use Rattle.norm_engine.specs.EngineState.{entry_written}
 
 -- connections represent some calls, with at most `records` datagrams among them, and fragments
 -- represent others, none of them later than `latest`
@@ -251,11 +232,6 @@ IsPieceJudged settings calls o packet judgment reassembly.held = judgment ≡ Ho
 IsPieceJudged settings calls o packet judgment reassembly.done = IsJoinedJudged settings calls o packet judgment
 IsPieceJudged settings calls o packet judgment (reassembly.dropped rule) = judgment ≡ Drop (Some packet.side) rule
 
--- the entry of a record that is written, rewritten by these rules, with which these eras ended
-abbrev pub entry_written : (number : ℕ) → Option Side → List Rule → List Ended → PlainEntry
-entry_written number side named ended =
-    record { number = number; side = side; verdict = verdict_of named; packets = 1; rules = named; era = None; begun = None; ended = ended }
-
 -- the entry of a record for which nothing is written, by this rule alone: it drops the record, or
 -- holds it
 abbrev pub entry_stopped : (number : ℕ) → Option Side → Verdict → Rule → List Ended → PlainEntry
@@ -305,8 +281,3 @@ frames_for (Drop side rule) hops link octets = []
 frames_for (Hold side) hops link octets = []
 frames_for (Send packet mend) hops link octets = frame_with packet.fixes.items octets (frame_for packet mend hops link) ∷ []
 frames_for (Segment packet head) hops link octets = []
-
--- the frames that a step gives: the record as it was read, or those of the outbox
-abbrev pub frames_given : (as_read : Bool) → (octets : List ℕ) → (out : List (List ℕ)) → List (List ℕ)
-frames_given true octets out = octets ∷ []
-frames_given false octets out = out

@@ -13,7 +13,7 @@ use Rattle.pcap_file.specs.Records.{Packet}
 use Rattle.rule_book.specs.declared.rule.Rule.{Rule}
 use Rattle.rule_book.specs.declared.rule.Rule.TheVariants as rules
 use Rattle.rule_book.specs.Rules.{header_fix_rows, header_rows, link_rows, protocol_rows}
-use Rattle.norm_settings.specs.Settings.{PlainSettings}
+use Rattle.norm_settings.specs.SettingValues.{PlainSettings}
 use Rattle.norm_settings.specs.Side.{side}
 use Rattle.wire_base.specs.declared.limits.TheConstants.{MAX_FRAME, MAX_LINK}
 

@@ -8,18 +8,18 @@ use Rattle.wire_base.specs.Frames.{packet_in}
 use Rattle.wire_base.specs.Ipv4 as ip
 use Rattle.pcap_file.specs.Records.{Packet}
 use Rattle.rule_book.specs.declared.entry.Verdict.TheVariants as verdicts
-use Rattle.norm_settings.specs.Settings.{PlainSettings}
+use Rattle.norm_settings.specs.SettingValues.{PlainSettings}
 use Rattle.receiver_model.specs.Monitors.{EraMissesNothing}
-use Rattle.receiver_model.specs.Parts.{EachReadsPart}
+use Rattle.receiver_model.specs.StreamParts.{EachReadsPart}
 use Rattle.era_state.specs.Quantities.{base_of, end_of, first}
 use Rattle.era_agreement.specs.Agreement.{EraIsSound}
-use Rattle.era_agreement.specs.Sent.{Sent, inward_packets, inward_places, written_in}
-use Rattle.ip_rules.specs.Rows.{carries_ip, is_inward}
+use Rattle.era_agreement.specs.SentPackets.{Sent, inward_packets, inward_places, written_in}
+use Rattle.ip_rules.specs.RuleRows.{carries_ip, is_inward}
 use Rattle.tcp_norm.specs.Calls.{is_written}
 use Rattle.norm_engine.specs.Items.{Item, packets}
-use Rattle.norm_engine.specs.Rows.{side_of_record}
+use Rattle.norm_engine.specs.RuleRows.{side_of_record}
 use Rattle.norm_engine.specs.Agreement.{AtEachHistory, sent_in}
-use Rattle.norm_engine.specs.Laws.{IsSound}
+use Rattle.norm_engine.specs.TraceLaws.{IsSound}
 
 -- the addresses of packets that go inwards between two hosts: the source, which is outside, and the
 -- destination, which is inside

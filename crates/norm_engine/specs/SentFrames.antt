@@ -7,10 +7,10 @@ use Rattle.wire_base.specs.declared.address.Side.TheVariants.{Inward}
 use Rattle.wire_base.specs.declared.frame.FrameKind.TheVariants.{Arp}
 use Rattle.wire_base.specs.Frames.{kind_of, packet_in}
 use Rattle.wire_base.specs.Plain.{Plain}
-use Rattle.norm_settings.specs.Settings.{PlainSettings}
+use Rattle.norm_settings.specs.SettingValues.{PlainSettings}
 use Rattle.receiver_model.specs.Messages.{IsReadAlike}
 use Rattle.norm_engine.specs.Items.{Item}
-use Rattle.norm_engine.specs.Laws.{IsSound}
+use Rattle.norm_engine.specs.TraceLaws.{IsSound}
 use Rattle.wire_base.specs.declared.limits.TheConstants.{MAX_FRAME}
 
 -- each frame of the item has at most 65,549 octets: a packet of at most 65,535 after a link header

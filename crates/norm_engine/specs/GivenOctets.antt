@@ -2,17 +2,17 @@
 use Rattle.std.specs.Prelude.{◌≡◌, ℕ, ◌+◌, Bool, true, false, List, ◌∷◌, ◌++◌, length, ℤ, pos, ◌≤ℤ◌, Some, slice_get}
 use Rattle.std.specs.List.{AllByRecursion}
 use Rattle.wire_base.specs.declared.address.Link.{Link}
-use Rattle.norm_settings.specs.Settings.{PlainSettings}
+use Rattle.norm_settings.specs.SettingValues.{PlainSettings}
 use Rattle.receiver_model.specs.declared.member.Member.{Member}
-use Rattle.receiver_model.specs.Agreement.{IsMember}
+use Rattle.receiver_model.specs.FamilyAgreement.{IsMember}
 use Rattle.receiver_model.specs.Delivery.{DeliversInTime}
 use Rattle.era_state.specs.Quantities.{acked, base_of}
-use Rattle.era_agreement.specs.Sent.{written_in, inward_packets, inward_places}
-use Rattle.tcp_norm.specs.Brought.{HasAt}
+use Rattle.era_agreement.specs.SentPackets.{written_in, inward_packets, inward_places}
+use Rattle.tcp_norm.specs.BroughtOctets.{HasAt}
 use Rattle.norm_engine.specs.Items.{Item}
 use Rattle.norm_engine.specs.Agreement.{sent_in}
-use Rattle.norm_engine.specs.Laws.{IsSound}
-use Rattle.norm_engine.specs.Brought.{Brings, EndIsAdded, IsBrought, IsConsistent, OctetIsAdded, names_clash}
+use Rattle.norm_engine.specs.TraceLaws.{IsSound}
+use Rattle.norm_engine.specs.BroughtOctets.{Brings, EndIsAdded, IsBrought, IsConsistent, OctetIsAdded, names_clash}
 
 -- What was read from the offset `start` on was brought: a record brought each octet to its offset,
 -- and added it to the stream; and, if the reader has ended, one brought the end there.

@@ -3,7 +3,7 @@ use Rattle.std.specs.Prelude.{Bool, Option}
 use Rattle.wire_base.specs.declared.address.Side.{Side}
 use Rattle.tcp_codec.specs.declared.header.Tcp.{Tcp}
 use Rattle.rule_book.specs.declared.rule.Rule.{Rule}
-use Rattle.ip_rules.specs.declared.judged.IpPacket.{IpPacket}
+use Rattle.ip_rules.specs.declared.rows.IpPacket.{IpPacket}
 use Rattle.norm_engine.specs.declared.judge.Decision.{Decision}
 use Rattle.norm_engine.specs.declared.judge.Decision.TheVariants as decisions
 use Rattle.norm_engine.specs.declared.judge.Parsed.{Parsed}

@@ -9,11 +9,11 @@ use Rattle.wire_base.specs.Ipv4 as ip
 use Rattle.wire_base.specs.Plain.{IsPlainHeader}
 use Rattle.pcap_file.specs.Records.{Packet}
 use Rattle.tcp_codec.specs.declared.header.SumRule.TheVariants.{Skip}
-use Rattle.tcp_codec.specs.Header.{fault_of}
-use Rattle.norm_settings.specs.Settings.{PlainSettings}
+use Rattle.tcp_codec.specs.HeaderFields.{fault_of}
+use Rattle.norm_settings.specs.SettingValues.{PlainSettings}
 use Rattle.norm_engine.specs.Items.{Item}
 use Rattle.norm_engine.specs.Trace.{item_of}
-use Rattle.norm_engine.specs.Clean.{HasOctets, HaveOctets}
+use Rattle.norm_engine.specs.CleanRecords.{HasOctets, HaveOctets}
 use Rattle.rule_book.specs.declared.entry.TheConstants.{MAX_NAMED}
 
 -- an unfragmented packet with a header of 20 octets, and a segment without a fault, if it carries

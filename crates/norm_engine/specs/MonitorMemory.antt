@@ -3,19 +3,19 @@
 use Rattle.std.specs.Prelude.{◌≡◌, ℕ, ◌+◌, ◌*◌, ◌≤◌, Bool, List, length, ℤ, pos, Option, Some, None, Contains, is_some}
 use Rattle.std.specs.List.{count_by, range_with_len}
 use Rattle.wire_base.specs.declared.address.Link.{Link}
-use Rattle.norm_settings.specs.Settings.{PlainSettings}
+use Rattle.norm_settings.specs.SettingValues.{PlainSettings}
 use Rattle.receiver_model.specs.declared.member.Member.{Member}
-use Rattle.receiver_model.specs.Agreement.{IsMember}
+use Rattle.receiver_model.specs.FamilyAgreement.{IsMember}
 use Rattle.receiver_model.specs.Delivery.{DeliversInTime, Receiver}
 use Rattle.era_state.specs.Quantities.{acked, base_of}
 use Rattle.era_agreement.specs.Agreement.{read_to}
-use Rattle.era_agreement.specs.Sent.{inward_packets, inward_places, written_in}
+use Rattle.era_agreement.specs.SentPackets.{inward_packets, inward_places, written_in}
 use Rattle.tcp_norm.specs.Calls.{Alive, eras}
-use Rattle.tcp_norm.specs.Held.{held_in, kept_at}
+use Rattle.tcp_norm.specs.HeldOctets.{held_in, kept_at}
 use Rattle.norm_engine.specs.Agreement.{sent_in}
 use Rattle.norm_engine.specs.Calls.{flow_calls}
 use Rattle.norm_engine.specs.Items.{Item}
-use Rattle.norm_engine.specs.Laws.{IsSound}
+use Rattle.norm_engine.specs.TraceLaws.{IsSound}
 
 -- A receiver after packets of an era that were written inwards, each in time. It has read up to
 -- Acked, or has ended one octet before it.

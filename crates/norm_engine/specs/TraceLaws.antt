@@ -5,20 +5,20 @@ use Rattle.wire_base.specs.declared.address.Link.{Link}
 use Rattle.pcap_file.specs.Records.{Packet}
 use Rattle.rule_book.specs.declared.rule.Rule.TheVariants as rules
 use Rattle.rule_book.specs.Entries.{IsOfVersion}
-use Rattle.norm_settings.specs.Settings.{PlainSettings}
+use Rattle.norm_settings.specs.SettingValues.{PlainSettings}
 use Rattle.era_state.specs.Quantities.{base_of, end_of, first}
 use Rattle.receiver_model.specs.Monitors.{StayNearAcks}
-use Rattle.receiver_model.specs.Parts.{AreOfStream}
-use Rattle.era_agreement.specs.Sent.{inward_packets, inward_places, inward_acks, written_in}
-use Rattle.era_agreement.specs.Laws.{TellsItsStream}
+use Rattle.receiver_model.specs.StreamParts.{AreOfStream}
+use Rattle.era_agreement.specs.SentPackets.{inward_packets, inward_places, inward_acks, written_in}
+use Rattle.era_agreement.specs.AgreementLaws.{TellsItsStream}
 use Rattle.tcp_norm.specs.Calls.{eras}
-use Rattle.tcp_norm.specs.Segments.{AreOfSegments, IsBounded}
-use Rattle.reassembly.specs.Laws as fragments
+use Rattle.tcp_norm.specs.SegmentPackets.{AreOfSegments, IsBounded}
+use Rattle.reassembly.specs.CallLaws as fragments
 use Rattle.norm_engine.specs.Items.{Item, packets}
 use Rattle.norm_engine.specs.Fragments.{piece_calls}
 use Rattle.norm_engine.specs.Calls.{flow_calls}
 use Rattle.norm_engine.specs.Trace.{Lawful, item_of}
-use Rattle.norm_engine.specs.Clean.{HaveOctets, CleanIsKept}
+use Rattle.norm_engine.specs.CleanRecords.{HaveOctets, CleanIsKept}
 use Rattle.norm_engine.specs.Agreement.{Agree, AtEachHistory, MissesNothing, ReadsOneStream, sent_in}
 
 -- a trace of records of octets that is lawful for settings of at most 254 routers

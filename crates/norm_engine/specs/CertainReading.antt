@@ -9,14 +9,14 @@ use Rattle.wire_base.specs.Options.{are_well_formed}
 use Rattle.wire_base.specs.Frames.{packet_in}
 use Rattle.wire_base.specs.Plain.{Plain, IsPlainHeader}
 use Rattle.pcap_file.specs.Records.{Packet}
-use Rattle.norm_settings.specs.Settings.{PlainSettings}
-use Rattle.era_agreement.specs.Laws.{IsEmittedEra}
+use Rattle.norm_settings.specs.SettingValues.{PlainSettings}
+use Rattle.era_agreement.specs.AgreementLaws.{IsEmittedEra}
 use Rattle.tcp_norm.specs.Calls.{is_written}
 use Rattle.norm_engine.specs.Items.{Item}
 use Rattle.norm_engine.specs.Trace.{item_of}
-use Rattle.norm_engine.specs.Clean.{HasOctets, HaveOctets}
+use Rattle.norm_engine.specs.CleanRecords.{HasOctets, HaveOctets}
 use Rattle.norm_engine.specs.Agreement.{sent_in}
-use Rattle.norm_engine.specs.Laws.{IsSound}
+use Rattle.norm_engine.specs.TraceLaws.{IsSound}
 
 -- the packet is a TCP segment with complete headers, legal flags and well-formed options
 pub record IsWholeSegment (p : List ℕ) : Type 0 where

@@ -8,8 +8,8 @@ use Rattle.wire_base.specs.Frames.{packet_in}
 use Rattle.pcap_file.specs.Records.{Packet}
 use Rattle.rule_book.specs.declared.entry.Verdict.TheVariants as verdicts
 use Rattle.rule_book.specs.Rules.{touches_payload}
-use Rattle.norm_settings.specs.Settings.{PlainSettings}
-use Rattle.ip_rules.specs.Rows.{carries_ip}
+use Rattle.norm_settings.specs.SettingValues.{PlainSettings}
+use Rattle.ip_rules.specs.RuleRows.{carries_ip}
 use Rattle.norm_engine.specs.Items.{Item}
 use Rattle.norm_engine.specs.Trace.{dropped_by, named_rows, read_after}
 

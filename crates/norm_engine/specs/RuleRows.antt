@@ -9,10 +9,10 @@ use Rattle.pcap_file.specs.Records.{Packet}
 use Rattle.rule_book.specs.declared.rule.Rule.{Rule}
 use Rattle.rule_book.specs.declared.rule.Rule.TheVariants as rules
 use Rattle.rule_book.specs.Rules.{segment_rows}
-use Rattle.norm_settings.specs.Settings.{PlainSettings}
+use Rattle.norm_settings.specs.SettingValues.{PlainSettings}
 use Rattle.ip_rules.specs.Datagrams.{Datagram}
-use Rattle.ip_rules.specs.Rows.{carries_ip, side_in}
-use Rattle.dgram_rules.specs.Rows.{pseudo_of, is_offloaded}
+use Rattle.ip_rules.specs.RuleRows.{carries_ip, side_in}
+use Rattle.dgram_rules.specs.RuleRows.{pseudo_of, is_offloaded}
 
 -- the side of a record's packet, or none if the record carries no IPv4
 abbrev pub side_of_record : PlainSettings → Link → Packet → Option Side
@@ -56,10 +56,6 @@ holds_header settings d _ = false
 -- the same for a datagram that is TCP; no rule applies to another one
 abbrev pub holds_tcp : PlainSettings → Datagram → Rule → Bool
 holds_tcp settings d rule = is_tcp d && holds_header settings d rule
-
--- the first rule on the header of a segment that holds
-abbrev pub segment_row : PlainSettings → Datagram → Option Rule
-segment_row settings d = find (holds_header settings d) segment_rows
 
 -- the datagram is a TCP segment that no rule on its header drops
 abbrev pub is_segment : PlainSettings → Datagram → Bool

@@ -1,12 +1,12 @@
 -- The frame of a datagram that is not a TCP segment (this project's profile): as read if no rule
 -- rewrites it, otherwise with a rewritten header.
 use Rattle.std.specs.Prelude.{ℕ, false, List, [], ◌∷◌, Option, Some, None, if◌then◌else◌}
-use Rattle.udp_codec.specs.Checksum.{mended}
+use Rattle.udp_codec.specs.WrittenChecksum.{mended}
 use Rattle.rule_book.specs.declared.rule.Rule.{Rule}
 use Rattle.rule_book.specs.declared.rule.Rule.TheVariants as rules
-use Rattle.norm_settings.specs.Settings.{PlainSettings}
+use Rattle.norm_settings.specs.SettingValues.{PlainSettings}
 use Rattle.ip_rules.specs.Datagrams.{Datagram, anew, frame_of}
-use Rattle.dgram_rules.specs.Rows.{pseudo_of, holds_dgram}
+use Rattle.dgram_rules.specs.RuleRows.{pseudo_of, holds_dgram}
 
 -- the octets written after the header: as read, with the checksum corrected under U_SUM_OUT
 abbrev pub octets_sent : PlainSettings → Datagram → List ℕ

@@ -1,18 +1,24 @@
--- What receivers of an era's frames read was brought by records.
+-- What receivers read of eras: records brought it, and two eras are read as one if the second goes
+-- on past the first.
 use Rattle.std.proofs.Common.{◌≡◌, ℕ, ◌+◌, Bool, false, List, [], ◌∷◌, ◌++◌, length, ℤ, pos, ◌≤ℤ◌, Some, refl, ap, subst, ◌∙◌, append_assoc}
 use Rattle.std.specs.List.{AllByRecursion}
 use Rattle.wire_base.specs.declared.address.Link.{Link}
-use Rattle.norm_settings.specs.Settings.{PlainSettings}
-use Rattle.receiver_model.specs.Parts.{EachReadsPart, ReadsPart}
+use Rattle.norm_settings.specs.SettingValues.{PlainSettings}
+use Rattle.receiver_model.specs.StreamParts.{EachReadsPart, ReadsPart}
 use Rattle.era_state.specs.Quantities.{acked, base_of, first, end_of}
-use Rattle.era_agreement.specs.Sent.{inward_packets, inward_places, written_in}
-use Rattle.tcp_norm.specs.Brought.{HasAt}
+use Rattle.era_agreement.specs.SentPackets.{inward_packets, inward_places, written_in}
+use Rattle.tcp_norm.specs.BroughtOctets.{HasAt}
 use Rattle.norm_engine.specs.Items.{Item}
 use Rattle.norm_engine.specs.Agreement.{sent_in}
-use Rattle.norm_engine.specs.Brought.{AreBrought, Brings, InventsNothing, IsBrought, IsConsistent, LawfulClashesAreReal, LawfulInventsNothing, OctetIsAdded, names_clash}
-use Rattle.norm_engine.specs.Given.{IsGivenAt, LawfulReadsRecords, ReadsBrought, ReadsGiven, ReadsItsRecords}
-use Rattle.norm_engine.specs.Laws.{LawfulReadsOneStream}
+use Rattle.norm_engine.specs.BroughtOctets.{AreBrought, Brings, InventsNothing, IsBrought, IsConsistent, LawfulClashesAreReal, LawfulInventsNothing, OctetIsAdded, names_clash}
+use Rattle.norm_engine.specs.GivenOctets.{IsGivenAt, LawfulReadsRecords, ReadsBrought, ReadsGiven, ReadsItsRecords}
+use Rattle.norm_engine.specs.TraceLaws.{LawfulReadsOneStream}
 use Rattle.norm_engine.proofs.BroughtOctets.{without_clash}
+use Rattle.era_agreement.specs.TwoEras.{EmittedErasAreReadAsOne, EmittedIsNotReadAgain, EmittedIsReadToAcked}
+use Rattle.norm_engine.specs.CertainReading.{LawfulIsEmitted}
+use Rattle.norm_engine.specs.TwoEras.{LawfulErasGoOn}
+
+-- What was brought.
 
 -- a record of a trace in which none differs from an earlier one
 consistent_at : (settings : PlainSettings) (link : Link) (era : ℕ) (newer : List Item) (item : Item) (older : List Item) → IsConsistent settings link era (newer ++ (item ∷ older))
@@ -70,3 +76,15 @@ lawful_reads_records nothing real reads settings link trace sound =
     let sent = sent_in link trace in
     reads_its_records settings link trace trace (λ era base. inward_places era base sent) (λ era. inward_packets era sent) (nothing settings link trace sound)
     (reads settings link trace sound) (λ era. without_clash settings link era trace (real settings link trace sound))
+
+-- Two eras.
+
+pub eras_go_on : LawfulIsEmitted → EmittedIsNotReadAgain → EmittedErasAreReadAsOne → EmittedIsReadToAcked → LawfulErasGoOn
+eras_go_on emitted again one acknowledged settings link trace sound = record {
+  again = λ era later base next shift.
+      again settings.hops era later base next shift (sent_in link trace) (emitted settings link trace sound era) (emitted settings link trace sound later);
+  one = λ era later base next shift.
+      one settings.hops era later base next shift (sent_in link trace) (emitted settings link trace sound era) (emitted settings link trace sound later);
+  acknowledged = λ era base member start schedule stream ended.
+      acknowledged settings.hops era base (sent_in link trace) member start schedule stream ended (emitted settings link trace sound era);
+}

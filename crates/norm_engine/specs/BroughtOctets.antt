@@ -7,16 +7,16 @@ use Rattle.wire_base.specs.declared.address.Side.TheVariants.{Inward}
 use Rattle.wire_base.specs.Segments.{Written}
 use Rattle.rule_book.specs.declared.rule.Rule.{Rule}
 use Rattle.rule_book.specs.declared.rule.Rule.TheVariants as rules
-use Rattle.norm_settings.specs.Settings.{PlainSettings}
+use Rattle.norm_settings.specs.SettingValues.{PlainSettings}
 use Rattle.era_state.specs.Quantities.{base_of, acked, first, end_of}
-use Rattle.era_agreement.specs.Sent.{written_in}
+use Rattle.era_agreement.specs.SentPackets.{written_in}
 use Rattle.ip_rules.specs.Datagrams.{Datagram}
 use Rattle.tcp_norm.specs.Calls.{is_written, segment_in}
-use Rattle.tcp_norm.specs.Brought.{HasAt, EndsAt}
+use Rattle.tcp_norm.specs.BroughtOctets.{HasAt, EndsAt}
 use Rattle.norm_engine.specs.Items.{Item}
 use Rattle.norm_engine.specs.Calls.{segment_after}
 use Rattle.norm_engine.specs.Agreement.{sent_in}
-use Rattle.norm_engine.specs.Laws.{IsSound}
+use Rattle.norm_engine.specs.TraceLaws.{IsSound}
 
 -- A record brings this to an era after a history: it went inwards, was written in the era, and the
 -- segment of its datagram has it after what was written before. The datagram is the one that the

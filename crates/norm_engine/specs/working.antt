@@ -1,0 +1,4 @@
+pub mod FirstRow
+pub mod DatagramJudgment
+pub mod RecordJudgment
+pub mod EngineAnswers
