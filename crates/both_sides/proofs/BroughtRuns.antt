@@ -1,24 +1,27 @@
--- Nothing is invented in a run, each clash in its lines is real, and receivers read what records
--- brought.
+-- What a run writes was recorded: nothing is invented, each clash in its lines is real, receivers
+-- read what records brought, and a run that changes nothing inwards was read as it was recorded.
 use Rattle.std.proofs.Common.{◌≡◌, ℕ, ◌||◌, Bool, true, false, List, [], ◌∷◌, ◌++◌, map, Option, Some, None, refl, sym, ap, subst, ◌∙◌, append_assoc}
 use Rattle.std.specs.List.{AllByRecursion, list_any}
 use Rattle.wire_base.specs.declared.address.Link.{Link}
 use Rattle.pcap_file.specs.Records.{Packet}
 use Rattle.rule_book.specs.declared.rule.Rule.{Rule}
-use Rattle.norm_settings.specs.Settings.{PlainSettings}
-use Rattle.era_agreement.specs.Sent.{inward_packets, inward_places}
+use Rattle.norm_settings.specs.SettingValues.{PlainSettings}
+use Rattle.era_agreement.specs.SentPackets.{inward_packets, inward_places}
 use Rattle.norm_engine.specs.Items.{Item, packets}
 use Rattle.norm_engine.specs.Agreement.{ReadsOneStream, sent_in}
-use Rattle.norm_engine.specs.Brought.{LawfulClashesAreReal, LawfulInventsNothing, NamesEachClash, is_clash, names_clash}
+use Rattle.norm_engine.specs.BroughtOctets.{LawfulClashesAreReal, LawfulInventsNothing, NamesEachClash, is_clash, names_clash}
 use Rattle.norm_engine.specs.HeldFragments.{LawfulFragmentClashesAreReal, NamesEachFragmentClash, is_fragment_clash, names_fragment_clash}
-use Rattle.norm_engine.specs.Laws.{IsSound}
+use Rattle.norm_engine.specs.TraceLaws.{IsSound}
 use Rattle.norm_engine.proofs.BroughtOctets.{without_clash}
-use Rattle.norm_engine.proofs.GivenOctets.{reads_its_records}
+use Rattle.norm_engine.proofs.EraReadings.{reads_its_records}
 use Rattle.both_sides.specs.Traces.{behind, mirrored, record_of, records_of}
-use Rattle.both_sides.specs.Cut.{cuts_some, item_written, keeps_some_back, places_written, rules_cut, written, ReadsOneStreamAsWritten}
-use Rattle.both_sides.specs.Runs.{RunTrace, one, two}
+use Rattle.both_sides.specs.WrittenTrace.{cuts_some, item_written, keeps_some_back, places_written, rules_cut, written, ReadsOneStreamAsWritten, WrittenWhole}
+use Rattle.both_sides.specs.RunTraces.{RunTrace, one, two}
 use Rattle.both_sides.specs.RunLaws.{RunIsWrittenSoundly, RunsAreWrittenSoundly}
-use Rattle.both_sides.specs.Brought.{AreFramesOf, IsFrameOf, NamesEachClashAsWritten, NamesEachFragmentClashAsWritten, RunIsBrought, RunReadsRecords, RunsAreBrought, RunsReadRecords}
+use Rattle.both_sides.specs.BroughtOctets.{AreFramesOf, IsFrameOf, NamesEachClashAsWritten, NamesEachFragmentClashAsWritten, RunIsBrought, RunReadsRecords, RunsAreBrought, RunsReadRecords}
+use Rattle.norm_engine.specs.RecordedHost.{LawfulWasReadSo, UnchangedWasReadSo}
+use Rattle.norm_engine.specs.TwoEras.{ErasGoOn, LawfulErasGoOn}
+use Rattle.both_sides.specs.RecordedHost.{ErasOfRunsGoOn, RunsWereReadSo}
 
 -- What is named in a line, as it is written.
 
@@ -182,3 +185,17 @@ reads_in settings link (two trace mirror) sound = (sound.reads, sound.reads_behi
 pub runs_read_records : RunsAreWrittenSoundly → RunsAreBrought → RunsReadRecords
 runs_read_records soundly brought settings link run range together lawful octets sideless =
     run_reads_records settings link run (brought settings link run range.hops lawful octets) (reads_in settings link run (soundly settings link run range together lawful octets sideless))
+
+-- A run that changes nothing inwards, and eras of a run that are read as one.
+
+pub runs_were_read_so : LawfulWasReadSo → WrittenWhole → RunsWereReadSo
+runs_were_read_so read whole settings link trace hops lawful octets none =
+    subst (UnchangedWasReadSo settings link) (sym (whole settings link trace none)) (read settings link trace (record { hops = hops; octets = octets.0; lawful = lawful.1 }))
+
+pub eras_of_runs_go_on : LawfulErasGoOn → WrittenWhole → ErasOfRunsGoOn
+eras_of_runs_go_on go whole settings link (one trace) hops lawful octets = λ none.
+    subst (ErasGoOn settings.hops link) (sym (whole settings link trace none)) (go settings link trace (record { hops = hops; octets = octets.0; lawful = lawful.1 }))
+eras_of_runs_go_on go whole settings link (two trace mirror) hops lawful octets = (
+  go settings link trace (record { hops = hops; octets = octets.0; lawful = lawful.1.first }),
+  go (mirrored settings) link mirror (record { hops = hops; octets = octets.1; lawful = lawful.1.second }),
+)

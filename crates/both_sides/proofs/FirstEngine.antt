@@ -1,42 +1,153 @@
--- What the first engine writes for a record that goes inwards, plain packets or ARP, and the second
--- engine's items for it.
-use Rattle.std.proofs.Common.{◌≡◌, ℕ, true, false, not, List, ◌∷◌, length, take, drop, map, is_none, refl, ap, subst, ◌∙◌, ◌+◌, ◌≤◌, inl, inr, ◌&&◌, ◌==◌, nat_le, Bool, ◌++◌, Option, Some, None, find, sym, [], zero, suc}
+-- What the first engine writes for a record that goes inwards, plain packets or ARP, which pass the
+-- second's rules on addresses, and the second engine's items for it.
+use Rattle.std.proofs.Common.{◌≡◌, ℕ, ◌+◌, ◌≤◌, inl, ◌&&◌, ◌||◌, true, false, List, ◌++◌, Option, Some, None, is_none, refl, sym, ap, ap₂, ◌∙◌, subst, arith, append_assoc, [], ◌∷◌, not, length, take, drop, map, inr, ◌==◌, nat_le, Bool, find, zero, suc}
 use Rattle.std.specs.List.{AllByRecursion, list_any}
 use Rattle.wire_base.specs.declared.address.Link.{Link}
+use Rattle.wire_base.specs.declared.address.Side.{Side}
+use Rattle.wire_base.specs.declared.address.Side.TheVariants.{Inward, Outward}
+use Rattle.wire_base.specs.Ipv4 as ip
+use Rattle.wire_base.specs.Icmp as icmp
+use Rattle.wire_base.specs.Plain.{Plain}
+use Rattle.wire_base.specs.Frames.{link_octets, packet_in}
+use Rattle.pcap_file.specs.Records as records
+use Rattle.norm_settings.specs.SettingValues.{PlainSettings}
+use Rattle.norm_settings.specs.Side.{side}
+use Rattle.ip_rules.specs.RuleRows.{carries_ip, is_bad_destination, is_bad_source, i_dst, i_src, side_in, holds_ip, holds_in, packet_drop_rows, ip_drop_rows, ip_dropped_by, carries_arp}
+use Rattle.ip_rules.specs.Datagrams.{Datagram, Packet, IsPacketOf, goes_in, frame_of, frames_of, DatagramsAreKnown, AnewIsPacket, IsKnown, as_read, anew}
+use Rattle.ip_rules.proofs.Lists.{none_found}
+use Rattle.dgram_rules.specs.RuleRows.{is_error, is_query}
+use Rattle.reassembly.specs.Calls as reassembly
+use Rattle.norm_engine.specs.Calls.{datagram_by, Past, past_of, where_passes, datagram_after, segment_after}
+use Rattle.norm_engine.proofs.Frames.{packet_behind, long_behind, carries_behind, whole_frame, type_kept}
+use Rattle.norm_engine.proofs.Datagrams.{carried, joined, IsEither, either_of, fragment_is, made_of, first_none, no_pass}
+use Rattle.norm_engine.proofs.Traces.{link_kept, both_of, datagram_known, segment_is}
+use Rattle.both_sides.specs.EngineLaws.{is_outward, GoesThrough, InwardGoesThrough, HaveNoSide}
+use Rattle.norm_engine.proofs.Messages.{IsMessage, plain_message, message_of, sent_is_read}
+use Rattle.both_sides.proofs.SecondEngine.{IsRelayed, Relays, IsUntouched, untouched, IsAddressed}
 use Rattle.pcap_file.specs.Records.{Packet as Record}
 use Rattle.rule_book.specs.declared.entry.Verdict.TheVariants as verdicts
 use Rattle.rule_book.specs.Rules.{touches_payload, segment_rows}
-use Rattle.norm_settings.specs.Settings.{PlainSettings}
 use Rattle.norm_engine.specs.Items.{Item, packets}
 use Rattle.norm_engine.specs.Trace.{Lawful, item_of, verdict_by, Read, read_after, is_held, is_quoted_live, dropped_by, named_rows, outcome_of, frames_by, side_by}
-use Rattle.norm_engine.specs.Clean.{is_clean, KeepsPayload, CleanIsKept, HasOctets, HaveOctets}
-use Rattle.wire_base.specs.Frames.{link_octets}
-use Rattle.icmp_codec.specs.Quote.{quoted_in}
-use Rattle.pcap_file.specs.Records as records
+use Rattle.norm_engine.specs.CleanRecords.{is_clean, KeepsPayload, CleanIsKept, HasOctets, HaveOctets}
+use Rattle.icmp_codec.specs.QuotedPacket.{quoted_in}
 use Rattle.rule_book.specs.declared.rule.Rule.{Rule}
 use Rattle.rule_book.specs.declared.rule.Rule.TheVariants as rules
-use Rattle.ip_rules.specs.Rows.{carries_ip, carries_arp}
-use Rattle.ip_rules.specs.Datagrams.{Datagram, DatagramsAreKnown, AnewIsPacket, IsKnown, frame_of, as_read, anew}
-use Rattle.tcp_norm.specs.Views.{view_of}
-use Rattle.tcp_norm.specs.Segments.{PacketsAreItsOwn, PacketsArePlain}
+use Rattle.tcp_norm.specs.RuleViews.{view_of}
+use Rattle.tcp_norm.specs.SegmentPackets.{PacketsAreItsOwn, PacketsArePlain}
 use Rattle.tcp_norm.proofs.StreamFrames.{empty_left}
-use Rattle.reassembly.specs.Calls as reassembly
-use Rattle.norm_engine.specs.Rows.{side_of_record, is_tcp, is_segment, holds_tcp}
-use Rattle.norm_engine.specs.Engine.{read_with}
-use Rattle.norm_engine.specs.Calls.{Past, past_of, where_passes, datagram_by, datagram_after, segment_after}
-use Rattle.norm_engine.specs.Frames.{octets_sent, frame_by}
+use Rattle.norm_engine.specs.RuleRows.{side_of_record, is_tcp, is_segment, holds_tcp}
+use Rattle.norm_engine.specs.working.EngineAnswers.{read_with}
+use Rattle.norm_engine.specs.MessageFrames.{octets_sent, frame_by}
 use Rattle.norm_engine.proofs.Items.{era_told, sides, segment_frames, plain_frames}
-use Rattle.norm_engine.proofs.Datagrams.{carried, joined, IsEither, either_of, made_of, first_none, no_pass}
 use Rattle.norm_engine.proofs.Layers.{bare_row, datagram_row_is, datagram_named_is, segment_rows_are}
-use Rattle.norm_engine.proofs.Frames.{whole_frame, type_kept}
 use Rattle.norm_engine.proofs.Judgments.{not_nil}
-use Rattle.norm_engine.proofs.Traces.{both_of, datagram_known, segment_is, link_kept}
-use Rattle.norm_engine.proofs.Messages.{IsMessage, message_of, sent_is_read}
 use Rattle.norm_engine.proofs.ItemFrames.{arp_of, carries_none}
 use Rattle.both_sides.specs.Traces.{mirrored, record_of, behind as records_behind, records_of}
-use Rattle.both_sides.specs.Laws.{GoesThrough, InwardGoesThrough, is_outward, HaveNoSide}
-use Rattle.both_sides.proofs.SecondEngine.{IsUntouched, Relays, untouched, IsRelayed, IsAddressed}
-use Rattle.both_sides.proofs.RelayedPackets.{GoesIn, all_relayed, goes_in_of, message_relays}
+
+-- Packets that the first engine writes inwards, segments and messages.
+
+-- the rules on the addresses of a record that no rule on the header drops
+record IsAllowed (settings : PlainSettings) (given : Option Side) (p : List ℕ) : Type 0 where
+  source : i_src p ≡ false
+  destination : i_dst p ≡ false
+  sided : is_none (side_in settings given p) ≡ false
+
+packet_rows : (settings : PlainSettings) (link : Link) (r : records.Packet) → ip_dropped_by settings link r ≡ None → carries_ip link r.octets ≡ true
+    → AllByRecursion (λ rule. holds_in settings r.side (packet_in link r.octets) rule ≡ false) packet_drop_rows
+unfolding ip_dropped_by
+packet_rows settings link r undropped carries =
+    subst (λ b. AllByRecursion (λ rule. (b && holds_in settings r.side (packet_in link r.octets) rule) ≡ false) packet_drop_rows) carries
+    (none_found (holds_ip settings link r) ip_drop_rows undropped).1.1.1
+
+allowed : (settings : PlainSettings) (link : Link) (r : records.Packet) → ip_dropped_by settings link r ≡ None → carries_ip link r.octets ≡ true
+    → IsAllowed settings r.side (packet_in link r.octets)
+allowed settings link r undropped carries =
+    let rows = packet_rows settings link r undropped carries in
+    record { source = rows.1.1.1.1.1.0; destination = rows.1.1.1.1.1.1.0; sided = rows.1.1.1.1.1.1.1.0 }
+
+-- what is known of the datagram of a record that goes inwards
+pub record GoesIn (settings : PlainSettings) (link : Link) (r : records.Packet) (d : Datagram) : Type 0 where
+  undropped : ip_dropped_by settings link r ≡ None
+  carries : carries_ip link r.octets ≡ true
+  source : d.head.src.0 ≡ ip.source (packet_in link r.octets)
+  destination : d.head.dst.0 ≡ ip.destination (packet_in link r.octets)
+  pub inward : goes_in d.side ≡ true
+  told : side_in settings r.side (packet_in link r.octets) ≡ Some Inward
+
+inward_side : (side : Side) → is_outward (Some side) ≡ false → side ≡ Inward
+inward_side Inward h = refl
+inward_side Outward h = absurd (cc)
+
+pub goes_in_of : (settings : PlainSettings) (link : Link) (calls : List reassembly.Call) (r : records.Packet) (d : Datagram) → datagram_by settings link calls r ≡ Some d → is_outward (Some d.side) ≡ false
+    → GoesIn settings link r d
+goes_in_of settings link calls r d h inward = by (either_of settings link calls r d h)
+  where
+    is : d.side ≡ Inward
+    is = inward_side d.side inward
+
+    by : IsEither settings link calls r d → GoesIn settings link r d
+    by (carried c) = record {
+      undropped = c.undropped;
+      carries = c.carried;
+      source = sym (ap (λ (e : Datagram). e.head.src.0) c.is);
+      destination = sym (ap (λ (e : Datagram). e.head.dst.0) c.is);
+      inward = ap goes_in is;
+      told = c.told ∙ ap Some is;
+    }
+    by (joined j) =
+        let f = fragment_is settings link r j.piece j.offered in
+        record {
+          undropped = f.undropped;
+          carries = f.carried;
+          source = sym (ap (λ (e : Datagram). e.head.src.0) j.is);
+          destination = sym (ap (λ (e : Datagram). e.head.dst.0) j.is);
+          inward = ap goes_in is;
+          told = j.told ∙ ap Some is;
+        }
+
+-- a plain packet of such a datagram is relayed
+
+relayed : (settings : PlainSettings) (link : Link) (r : records.Packet) (d : Datagram) (p : Packet) → r.side ≡ None → GoesIn settings link r d → IsPacketOf settings d p
+    → Plain settings.hops (p.header ++ p.octets) → (d.head.protocol ≡ 1 → (is_error (icmp.kind p.octets) || is_query (icmp.kind p.octets)) ≡ true)
+    → IsRelayed settings link (frame_of (link_octets link r.octets) p)
+relayed settings link r d p sideless g is plain kind =
+    let whole = p.header ++ p.octets in
+    let long = link_kept settings link r g.undropped in
+    let a = allowed settings link r g.undropped g.carries in
+    let source : ip.source whole ≡ ip.source (packet_in link r.octets) = is.source ∙ g.source in
+    let destination : ip.destination whole ≡ ip.destination (packet_in link r.octets) = is.destination ∙ g.destination in
+    let made : IsRelayed settings link (link_octets link r.octets ++ whole) = record {
+      long = long_behind link r.octets whole long;
+      carries = carries_behind link r.octets whole long ∙ g.carries;
+      plain = subst (Plain settings.hops) (sym (packet_behind link r.octets whole long)) plain;
+      source = ap i_src (packet_behind link r.octets whole long) ∙ (ap₂ is_bad_source source destination ∙ a.source);
+      destination = ap i_dst (packet_behind link r.octets whole long) ∙ (ap is_bad_destination destination ∙ a.destination);
+      told = ap (side_in settings None) (packet_behind link r.octets whole long) ∙ (ap₂ (side settings None) source destination ∙ (ap (λ given. side_in settings given (packet_in link r.octets)) (sym sideless) ∙ g.told));
+      kind = λ one.
+          ap (λ q. is_error (icmp.kind (ip.payload q)) || is_query (icmp.kind (ip.payload q))) (packet_behind link r.octets whole long)
+          ∙ (ap (λ m. is_error (icmp.kind m) || is_query (icmp.kind m)) is.carries
+          ∙ kind (sym is.protocol ∙ (sym (ap ip.protocol (packet_behind link r.octets whole long)) ∙ one)));
+    } in
+    subst (IsRelayed settings link) (sym (append_assoc (link_octets link r.octets) p.header p.octets)) made
+
+-- the packets of a segment
+
+pub all_relayed : (settings : PlainSettings) (link : Link) (r : records.Packet) (d : Datagram) (packets : List Packet) → r.side ≡ None → GoesIn settings link r d → d.head.protocol ≡ 6
+    → AllByRecursion (IsPacketOf settings d) packets → AllByRecursion (λ p. Plain settings.hops (p.header ++ p.octets)) packets
+    → AllByRecursion (Relays settings link) (frames_of (link_octets link r.octets) packets)
+all_relayed settings link r d [] sideless g six own plain = tt
+all_relayed settings link r d (p ∷ packets) sideless g six own plain = (
+  inl (relayed settings link r d p sideless g own.0 plain.0 (λ one. let both = sym six ∙ one in absurd (omega (arith, both)))),
+  all_relayed settings link r d packets sideless g six own.1 plain.1,
+)
+
+-- a packet of a message that no rule drops is relayed
+pub message_relays : (settings : PlainSettings) (link : Link) (r : records.Packet) (d : Datagram) (p : Packet) → r.side ≡ None → GoesIn settings link r d → IsMessage d → IsPacketOf settings d p
+    → p.octets ≡ d.octets → IsRelayed settings link (frame_of (link_octets link r.octets) p)
+message_relays settings link r d p sideless g says is same =
+    relayed settings link r d p sideless g is (plain_message settings d p is g.inward same says)
+    (λ one. ap (λ m. is_error (icmp.kind m) || is_query (icmp.kind m)) same ∙ says.kind one)
 
 -- The items of the second engine for the frames of one item of the first.
 

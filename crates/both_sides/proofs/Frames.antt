@@ -14,31 +14,31 @@ use Rattle.wire_base.specs.Frames.{kind_of, packet_in}
 use Rattle.wire_base.specs.Ipv4 as ip
 use Rattle.wire_base.specs.Tcp as tcp
 use Rattle.rule_book.specs.declared.rule.Rule.{Rule}
-use Rattle.norm_settings.specs.Settings.{PlainSettings}
-use Rattle.ip_rules.specs.Rows.{carries_ip}
+use Rattle.norm_settings.specs.SettingValues.{PlainSettings}
+use Rattle.ip_rules.specs.RuleRows.{carries_ip}
 use Rattle.receiver_model.specs.Monitors.{EraMissesNothing}
-use Rattle.receiver_model.specs.Parts.{EachReadsPart}
+use Rattle.receiver_model.specs.StreamParts.{EachReadsPart}
 use Rattle.era_state.specs.Quantities.{base_of, end_of, first as first_octet}
-use Rattle.era_agreement.specs.Sent.{inward_packets, inward_places, written_in}
+use Rattle.era_agreement.specs.SentPackets.{inward_packets, inward_places, written_in}
 use Rattle.era_agreement.specs.Agreement.{EraIsSound}
 use Rattle.norm_engine.specs.Items.{Item}
-use Rattle.norm_engine.specs.Clean.{CleanIsKept, KeepsPayload, payload_in, payload_of}
+use Rattle.norm_engine.specs.CleanRecords.{CleanIsKept, KeepsPayload, payload_in, payload_of}
 use Rattle.norm_engine.specs.Agreement.{sent_in}
-use Rattle.norm_engine.specs.Laws.{IsSound}
-use Rattle.norm_engine.specs.Outgoing.{GoesOut, IsOutgoing, ItemsGoOut}
+use Rattle.norm_engine.specs.TraceLaws.{IsSound}
+use Rattle.norm_engine.specs.OutgoingFrames.{GoesOut, IsOutgoing, ItemsGoOut}
 use Rattle.emit_mtu.specs.declared.long.LongKind.{LongKind}
 use Rattle.emit_mtu.specs.declared.long.LongKind.TheVariants.{Fits, Cut, Drop}
-use Rattle.emit_mtu.specs.Frames.{AreOctets, IsSent}
-use Rattle.emit_mtu.specs.Laws as cuts
-use Rattle.emit_mtu.specs.Laws.{AreFew, CarryThePayload, IsToBeCut, ArePlain, NoneIsLong as NoCutIsLong}
-use Rattle.emit_mtu.specs.Long.{e_cut, e_mtu, is_ip, is_long, is_marked, long_kind, may_be_cut}
-use Rattle.emit_mtu.specs.Streams.{NothingLongGoesOut, PlainHeadersAreWhole, frames_for, frames_of}
+use Rattle.emit_mtu.specs.FrameParts.{AreOctets, IsSent}
+use Rattle.emit_mtu.specs.CutLaws as cuts
+use Rattle.emit_mtu.specs.CutLaws.{AreFew, CarryThePayload, IsToBeCut, ArePlain, NoneIsLong as NoCutIsLong}
+use Rattle.emit_mtu.specs.LongFrames.{e_cut, e_mtu, is_ip, is_long, is_marked, long_kind, may_be_cut}
+use Rattle.emit_mtu.specs.CutStreams.{NothingLongGoesOut, PlainHeadersAreWhole, frames_for, frames_of}
 use Rattle.wire_base.specs.Plain.{Plain}
-use Rattle.rule_book.proofs.Lists.{all-append}
-use Rattle.norm_engine.specs.Sending.{ArePlainInwards, HasShortFrames, IsPlainInwards}
-use Rattle.norm_engine.proofs.Links.{frame_few, ip_kind}
-use Rattle.emit_mtu.proofs.Links.{kind_sized}
-use Rattle.both_sides.specs.Cut.{AgreesWhole, CleanIsWritten, FramesHaveOctets, HaveFrameOctets, MissesNothingWhole, NoneIsLong, ReadsWhole, WritesPayload, WrittenWhole, cuts_some, frames_written, is_of_cuts, item_written, keeps_some_back, places_written, rules_cut, verdict_cut}
+use Rattle.rule_book.proofs.Lines.{all-append}
+use Rattle.norm_engine.specs.SentFrames.{ArePlainInwards, HasShortFrames, IsPlainInwards}
+use Rattle.norm_engine.proofs.Frames.{frame_few, ip_kind}
+use Rattle.emit_mtu.proofs.Frames.{kind_sized}
+use Rattle.both_sides.specs.WrittenTrace.{AgreesWhole, CleanIsWritten, FramesHaveOctets, HaveFrameOctets, MissesNothingWhole, NoneIsLong, ReadsWhole, WritesPayload, WrittenWhole, cuts_some, frames_written, is_of_cuts, item_written, keeps_some_back, places_written, rules_cut, verdict_cut}
 
 -- What is written of a lawful trace.
 

@@ -5,6 +5,4 @@ pub mod Outputs
 pub mod Frames
 pub mod Runs
 pub mod Receivers
-pub mod RelayedPackets
 pub mod BroughtRuns
-pub mod RecordedRuns

@@ -10,34 +10,35 @@ use Rattle.std.specs.List.{flat_map, list_any}
 use Rattle.std.proofs.lemmas.List.Elements.{All-nil, All-cons, All-append}
 use Rattle.std.proofs.lemmas.List.Folds.{list_any-append}
 use Rattle.std.proofs.Math.Bool.{or-false}
-use Rattle.edge_io.specs.Octets.{AppendsPart, Puts}
-use Rattle.edge_io.proofs.Parts.{part_behind, part_of_first}
-use Rattle.pcap_file.specs.declared.order.Order.{Order}
+use Rattle.edge_io.specs.KnownOctets.{AppendsPart, Puts}
+use Rattle.edge_io.proofs.Moves.{part_behind, part_of_first}
+use Rattle.pcap_file.specs.declared.record.Order.{Order}
 use Rattle.pcap_file.specs.Records.{Packet, record_head, record_octets}
 use Rattle.pcap_file.proofs.Records.{record_head_size}
 use Rattle.wire_base.specs.declared.address.Link.{Link}
 use Rattle.emit_mtu.specs.declared.long.LongKind.{LongKind}
 use Rattle.emit_mtu.specs.declared.long.LongKind.TheVariants.{Fits, Cut, Drop}
-use Rattle.emit_mtu.specs.Long.{e_cut, e_mtu, is_long, long_kind, may_be_cut}
+use Rattle.emit_mtu.specs.LongFrames.{e_cut, e_mtu, is_long, long_kind, may_be_cut}
 use Rattle.emit_mtu.specs.Segments.{segments}
-use Rattle.emit_mtu.specs.Streams.{frames_for, frames_of, PlainHeadersAreWhole}
+use Rattle.emit_mtu.specs.CutStreams.{frames_for, frames_of, PlainHeadersAreWhole}
 use Rattle.wire_base.specs.Frames.{packet_in}
 use Rattle.rule_book.specs.Entries.{IsOfVersion, PlainEntry}
-use Rattle.norm_settings.specs.Settings.{PlainSettings}
+use Rattle.norm_settings.specs.SettingValues.{PlainSettings}
 use Rattle.norm_engine.specs.Items.{Item}
 use Rattle.norm_engine.specs.Trace.{item_of}
-use Rattle.norm_engine.specs.Engine.{frames_given}
-use Rattle.norm_engine.specs.Clean.{HasOctets, HaveOctets}
-use Rattle.norm_engine.specs.Laws.{IsCounted, ItemsAreCounted}
-use Rattle.norm_engine.specs.Outgoing.{ItemsGoOut}
-use Rattle.emit_mtu.specs.Frames.{AreOctets, IsSent}
-use Rattle.emit_mtu.specs.Laws.{AreFew}
+use Rattle.norm_engine.specs.EngineState.{frames_given}
+use Rattle.norm_engine.specs.CleanRecords.{HasOctets, HaveOctets}
+use Rattle.norm_engine.specs.TraceLaws.{IsCounted, ItemsAreCounted}
+use Rattle.norm_engine.specs.OutgoingFrames.{ItemsGoOut}
+use Rattle.emit_mtu.specs.FrameParts.{AreOctets, IsSent}
+use Rattle.emit_mtu.specs.CutLaws.{AreFew}
 use Rattle.both_sides.specs.declared.fault.RelayFault.TheVariants as faults
 use Rattle.both_sides.specs.Outputs.{Output, to_capture, to_report, Given, BreaksOff}
 use Rattle.both_sides.specs.Sinks.{Sinks}
 use Rattle.both_sides.specs.Frames.{frame_octets}
 use Rattle.both_sides.specs.declared.cut.Emitted.{Emitted}
-use Rattle.both_sides.specs.Cut.{TellsAll, TellsOne, frames_written, FramesHaveOctets, entry_written, item_written}
+use Rattle.both_sides.specs.working.FrameReports.{TellsAll, TellsOne}
+use Rattle.both_sides.specs.WrittenTrace.{frames_written, FramesHaveOctets, entry_written, item_written}
 use Rattle.both_sides.proofs.Frames.{InRange, all_sent, written_few}
 
 -- Outputs that are given one after another.

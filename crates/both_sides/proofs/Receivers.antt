@@ -12,24 +12,24 @@ use Rattle.wire_base.specs.Frames.{packet_in}
 use Rattle.wire_base.specs.Ipv4 as ip
 use Rattle.wire_base.specs.Tcp as tcp
 use Rattle.wire_base.specs.Segments.{fields_of, segment_of}
-use Rattle.norm_settings.specs.Settings.{PlainSettings}
-use Rattle.ip_rules.specs.Rows.{is_inward}
-use Rattle.receiver_model.specs.Agreement.{MembersAgree, TellOneStream}
+use Rattle.norm_settings.specs.SettingValues.{PlainSettings}
+use Rattle.ip_rules.specs.RuleRows.{is_inward}
+use Rattle.receiver_model.specs.FamilyAgreement.{MembersAgree, TellOneStream}
 use Rattle.receiver_model.specs.Monitors.{MonitorsMissNothing, StayNearAcks}
-use Rattle.receiver_model.specs.Parts.{AreOfStream, MembersReadParts}
+use Rattle.receiver_model.specs.StreamParts.{AreOfStream, MembersReadParts}
 use Rattle.era_state.specs.Quantities.{base_of, end_of, first}
-use Rattle.era_agreement.specs.Sent.{Sent, inward_packets, inward_places, inward_acks, is_era, written_in}
+use Rattle.era_agreement.specs.SentPackets.{Sent, inward_packets, inward_places, inward_acks, is_era, written_in}
 use Rattle.era_agreement.specs.Agreement.{EraIsSound, IsSilentPacket}
 use Rattle.norm_engine.specs.Items.{Item}
 use Rattle.norm_engine.specs.Agreement.{AtEachHistory, sent_in}
-use Rattle.norm_engine.specs.Laws.{IsSound, LawfulAgrees, LawfulIsOfOneStream, LawfulStaysNearAcks, LawfulTellsStreams}
-use Rattle.norm_engine.specs.Outgoing.{CarriesWhole, IsOutgoing}
+use Rattle.norm_engine.specs.TraceLaws.{IsSound, LawfulAgrees, LawfulIsOfOneStream, LawfulStaysNearAcks, LawfulTellsStreams}
+use Rattle.norm_engine.specs.OutgoingFrames.{CarriesWhole, IsOutgoing}
 use Rattle.emit_mtu.specs.declared.long.LongKind.{LongKind}
-use Rattle.emit_mtu.specs.Frames.{AreOctets}
-use Rattle.emit_mtu.specs.Long.{is_long, is_marked, long_kind, may_be_cut}
-use Rattle.emit_mtu.specs.Streams.{CutIsOfStream, CutStaysNearAcks, CutTellsOneStream, PacketsGoOutAlike, frames_for, frames_of, packets_for, places_for, acks_for}
-use Rattle.emit_mtu.proofs.Links.{kind_sized, octets_in}
-use Rattle.both_sides.specs.Cut.{AgreeAsWritten, HaveFrameOctets, MissesNothingAsWritten, ReadsOneStreamAsWritten, item_written, places_written}
+use Rattle.emit_mtu.specs.FrameParts.{AreOctets}
+use Rattle.emit_mtu.specs.LongFrames.{is_long, is_marked, long_kind, may_be_cut}
+use Rattle.emit_mtu.specs.CutStreams.{CutIsOfStream, CutStaysNearAcks, CutTellsOneStream, PacketsGoOutAlike, frames_for, frames_of, packets_for, places_for, acks_for}
+use Rattle.emit_mtu.proofs.Frames.{kind_sized, octets_in}
+use Rattle.both_sides.specs.WrittenTrace.{AgreeAsWritten, HaveFrameOctets, MissesNothingAsWritten, ReadsOneStreamAsWritten, item_written, places_written}
 use Rattle.both_sides.proofs.Frames.{InRange, all_flat, same_trace}
 use Rattle.emit_mtu.specs.declared.long.LongKind.TheVariants.{Fits, Cut, Drop}
 

@@ -5,32 +5,34 @@ use Rattle.std.proofs.Math.Seq.{drop-append_seam}
 use Rattle.std.proofs.lemmas.List.{length-append, length-map, take_at}
 use Rattle.std.proofs.lemmas.Grind.{flat_map-append}
 use Rattle.wire_base.specs.declared.address.Link.{Link}
-use Rattle.pcap_file.specs.declared.order.Order.{Order}
+use Rattle.pcap_file.specs.declared.record.Order.{Order}
 use Rattle.pcap_file.specs.Records.{Packet, record_octets}
 use Rattle.rule_book.specs.Text.{entry_text, lines_text, last_text}
-use Rattle.norm_settings.specs.Settings.{PlainSettings, AreInRange}
+use Rattle.norm_settings.specs.SettingValues.{PlainSettings, AreInRange}
 use Rattle.norm_engine.specs.Items.{Item, entries, packets}
 use Rattle.norm_engine.specs.Trace.{Lawful, item_of}
-use Rattle.norm_engine.specs.Engine.{Engaged}
-use Rattle.norm_engine.specs.Engine as single
-use Rattle.norm_engine.specs.Laws.{IsSound, LawfulIsWithin, LawfulKeepsClean, LawfulMissesNothing, LawfulIsOne, LawfulReadsOneStream}
-use Rattle.norm_engine.specs.Sending.{LawfulIsPlainInwards, LawfulIsShort}
+use Rattle.norm_engine.specs.EngineState.{Engaged}
+use Rattle.norm_engine.specs.EngineState as single
+use Rattle.norm_engine.specs.TraceLaws.{IsSound, LawfulIsWithin, LawfulKeepsClean, LawfulMissesNothing, LawfulIsOne, LawfulReadsOneStream}
+use Rattle.norm_engine.specs.SentFrames.{LawfulIsPlainInwards, LawfulIsShort}
 use Rattle.both_sides.specs.Traces.{behind, mirrored, record_of, records_for, records_of}
-use Rattle.both_sides.specs.Cut.{item_written, written, LawfulIsWrittenSoundly}
+use Rattle.both_sides.specs.WrittenTrace.{item_written, written, LawfulIsWrittenSoundly}
 use Rattle.both_sides.specs.Frames.{frame_count, frames_octets, item_octets}
 use Rattle.both_sides.specs.RunLaws.{Begins, PutsItsTrace, RunsGoOn, RunsAreWrittenSoundly, LawfulRunsAreOne, TwoPutTheirMirror}
 use Rattle.both_sides.specs.Outputs.{heading}
-use Rattle.both_sides.specs.Puts.{count_put, octets_put, put_by_two, puts, puts_by_two, text_put, next_put, answers_frames, put_octets}
-use Rattle.both_sides.specs.Runs.{answers, empty_run, one, two, RunHasOctets, RunTrace, next_run}
-use Rattle.both_sides.specs.Both.{Joined}
-use Rattle.both_sides.specs.Both as double
-use Rattle.both_sides.specs.Laws.{AreSound, BothAgree, FramesGoThrough}
+use Rattle.both_sides.specs.RecordOutputs.{count_put, octets_put, put_by_two, puts, puts_by_two, text_put, next_put, answers_frames, put_octets}
+use Rattle.both_sides.specs.RunTraces.{answers, empty_run, one, two, RunHasOctets, RunTrace, next_run}
+use Rattle.both_sides.specs.TwoEngines.{Joined}
+use Rattle.both_sides.specs.TwoEngines as double
+use Rattle.both_sides.specs.EngineLaws.{AreSound, BothAgree, FramesGoThrough}
 use Rattle.both_sides.specs.declared.engines.Engines.{Engines}
 use Rattle.both_sides.specs.declared.engines.Engines.TheVariants.{One, Two}
 use Rattle.both_sides.specs.declared.fault.RelayFault.{RelayFault}
-use Rattle.both_sides.specs.Relays.{CanRead, IsKept, IsReady, StandsForRun, link_of, settings_of}
+use Rattle.both_sides.specs.working.RelayState.{CanRead, IsKept, IsReady}
+use Rattle.both_sides.specs.RelayState.{StandsForRun, link_of, settings_of}
 use Rattle.both_sides.specs.Sinks.{Sinks}
-use Rattle.both_sides.specs.Steps.{HasRead, HaveRead, IsWritten}
+use Rattle.both_sides.specs.working.RecordEffects.{HasRead, HaveRead}
+use Rattle.both_sides.specs.WrittenRecord.{IsWritten}
 
 -- How a run continues from record to record.
 

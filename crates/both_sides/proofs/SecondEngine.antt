@@ -13,25 +13,25 @@ use Rattle.wire_base.specs.Udp as udp
 use Rattle.wire_base.specs.Icmp as icmp
 use Rattle.wire_base.specs.Tcp as tcp
 use Rattle.wire_base.specs.Options.{are_well_formed, has_route}
-use Rattle.wire_base.specs.Sums.{sum_is_right, pseudo_sum}
+use Rattle.wire_base.specs.Checksums.{sum_is_right, pseudo_sum}
 use Rattle.wire_base.specs.Plain.{Plain}
 use Rattle.wire_base.specs.Frames.{packet_in}
 use Rattle.ipv4_codec.specs.declared.header.Ipv4.{Ipv4}
-use Rattle.icmp_codec.specs.Quote.{quoted_in}
+use Rattle.icmp_codec.specs.QuotedPacket.{quoted_in}
 use Rattle.pcap_file.specs.Records.{Packet}
 use Rattle.rule_book.specs.declared.rule.Rule.{Rule}
 use Rattle.rule_book.specs.declared.rule.Rule.TheVariants as rules
 use Rattle.rule_book.specs.Rules.{datagram_rows, segment_rows}
-use Rattle.norm_settings.specs.Settings.{PlainSettings}
+use Rattle.norm_settings.specs.SettingValues.{PlainSettings}
 use Rattle.norm_settings.specs.Side.{is_listed, side_by}
-use Rattle.ip_rules.specs.Rows.{carries_ip, carries_arp, i_dst, i_src, side_in, is_inward, holds_ip, holds_in, packet_drop_rows, ip_drop_rows, whole_fix_rows, piece_fix_rows, ip_dropped_by, ip_fixes, l_short, l_type}
+use Rattle.ip_rules.specs.RuleRows.{carries_ip, carries_arp, i_dst, i_src, side_in, is_inward, holds_ip, holds_in, packet_drop_rows, ip_drop_rows, whole_fix_rows, piece_fix_rows, ip_dropped_by, ip_fixes, l_short, l_type}
 use Rattle.ip_rules.specs.Datagrams.{Datagram, datagram_of, datagram_in}
-use Rattle.dgram_rules.specs.Rows.{pseudo_of, has_wrong_sum, is_offloaded, is_error, is_query, holds_dgram, dgram_dropped_by, u_sum_out}
+use Rattle.dgram_rules.specs.RuleRows.{pseudo_of, has_wrong_sum, is_offloaded, is_error, is_query, holds_dgram, dgram_dropped_by, u_sum_out}
 use Rattle.tcp_norm.specs.Calls.{Call}
-use Rattle.tcp_norm.specs.Views.{View, view_of}
-use Rattle.tcp_norm.specs.Rows as era
+use Rattle.tcp_norm.specs.RuleViews.{View, view_of}
+use Rattle.tcp_norm.specs.RuleRows as era
 use Rattle.norm_engine.specs.Items.{Item}
-use Rattle.norm_engine.specs.Rows.{is_tcp, is_segment, holds_tcp}
+use Rattle.norm_engine.specs.RuleRows.{is_tcp, is_segment, holds_tcp}
 use Rattle.norm_engine.specs.Fragments.{offering_of, pieces_before, joined_in, holds_offered}
 use Rattle.norm_engine.specs.Calls.{past_of, where_passes}
 use Rattle.norm_engine.specs.Trace.{Read, read_after, is_held, dropped_by, named_rows, is_quoted_live}

@@ -10,16 +10,17 @@ use Rattle.pcap_file.specs.Records.{Packet}
 use Rattle.rule_book.specs.Entries.{PlainEntry, IsOfVersion}
 use Rattle.norm_engine.specs.Items.{Item, packets}
 use Rattle.norm_engine.specs.Trace.{Lawful, item_of}
-use Rattle.norm_engine.specs.Clean.{HasOctets}
-use Rattle.norm_engine.specs.Laws.{ItemsAreCounted}
-use Rattle.norm_engine.specs.Engine.{Engaged}
-use Rattle.norm_engine.specs.Engine as engine
-use Rattle.norm_settings.specs.Settings.{PlainSettings}
+use Rattle.norm_engine.specs.CleanRecords.{HasOctets}
+use Rattle.norm_engine.specs.TraceLaws.{ItemsAreCounted}
+use Rattle.norm_engine.specs.EngineState.{Engaged}
+use Rattle.norm_engine.specs.EngineState as engine
+use Rattle.norm_settings.specs.SettingValues.{PlainSettings}
 use Rattle.both_sides.specs.Traces.{mirrored, record_of, records_for, behind}
-use Rattle.both_sides.specs.Both.{Joined, StandsFor, StandsForSome, IsWithin, joined}
-use Rattle.both_sides.specs.Judged.{Answers, IsJudged, line_for}
-use Rattle.both_sides.specs.Puts.{answer_text, answers_frames, answers_text}
-use Rattle.both_sides.specs.Runs.{answers}
+use Rattle.both_sides.specs.TwoEngines.{Joined, StandsFor, joined}
+use Rattle.both_sides.specs.working.TwoEngines.{StandsForSome, IsWithin}
+use Rattle.both_sides.specs.working.FrameAnswers.{Answers, IsJudged, line_for}
+use Rattle.both_sides.specs.RecordOutputs.{answer_text, answers_frames, answers_text}
+use Rattle.both_sides.specs.RunTraces.{answers}
 
 -- What two engines represent, as records and frames are read, and how many there are.
 

@@ -2,22 +2,22 @@
 use Rattle.std.specs.Prelude.{◌≡◌, false, List, [], ◌∷◌, None}
 use Rattle.std.specs.List.{AllByRecursion}
 use Rattle.wire_base.specs.declared.address.Link.{Link}
-use Rattle.pcap_file.specs.declared.order.Order.{Order}
+use Rattle.pcap_file.specs.declared.record.Order.{Order}
 use Rattle.pcap_file.specs.Records.{Packet}
 use Rattle.rule_book.specs.declared.last.Last.{Last}
 use Rattle.rule_book.specs.Text.{report_text}
-use Rattle.norm_settings.specs.Settings.{AreInRange, GoTogether, PlainSettings}
+use Rattle.norm_settings.specs.SettingValues.{AreInRange, GoTogether, PlainSettings}
 use Rattle.norm_engine.specs.Items.{Item, entries}
 use Rattle.norm_engine.specs.Agreement.{Agree, AtEachHistory, MissesNothing, ReadsOneStream}
-use Rattle.norm_engine.specs.Clean.{CleanIsKept}
-use Rattle.norm_engine.specs.Laws.{IsAlwaysWithin}
-use Rattle.norm_engine.specs.Sending.{ArePlainInwards, HasShortFrames}
-use Rattle.both_sides.specs.Laws.{InwardGoesThrough}
+use Rattle.norm_engine.specs.CleanRecords.{CleanIsKept}
+use Rattle.norm_engine.specs.TraceLaws.{IsAlwaysWithin}
+use Rattle.norm_engine.specs.SentFrames.{ArePlainInwards, HasShortFrames}
+use Rattle.both_sides.specs.EngineLaws.{InwardGoesThrough}
 use Rattle.both_sides.specs.Traces.{mirrored, AreLawful}
-use Rattle.both_sides.specs.Cut.{IsWrittenSoundly, written}
+use Rattle.both_sides.specs.WrittenTrace.{IsWrittenSoundly, written}
 use Rattle.both_sides.specs.Frames.{frame_count, frames_octets}
-use Rattle.both_sides.specs.Puts.{count_put, next_put, octets_put, puts, report_of}
-use Rattle.both_sides.specs.Runs.{LawfulRun, RunHasNoSide, RunHasOctets, RunTrace, empty_run, next_run, one, packets_of, two}
+use Rattle.both_sides.specs.RecordOutputs.{count_put, next_put, octets_put, puts, report_of}
+use Rattle.both_sides.specs.RunTraces.{LawfulRun, RunHasNoSide, RunHasOctets, RunTrace, empty_run, next_run, one, packets_of, two}
 
 -- The run has no records, so that all octets are below 256 and none has its own side; it is lawful,
 -- and has no output.

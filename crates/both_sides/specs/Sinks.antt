@@ -1,7 +1,7 @@
 -- The visible state of the two sinks of a run (this project's profile).
 use Rattle.std.specs.Prelude.{◌≡◌, ℕ, List, Option}
-use Rattle.edge_io.specs.Faults.{Rose}
-use Rattle.edge_io.specs.Seen.{Seen}
+use Rattle.edge_io.specs.FaultCounts.{Rose}
+use Rattle.edge_io.specs.SeenEnds.{Seen}
 use Rattle.both_sides.specs.declared.fault.RelayFault.{RelayFault}
 use Rattle.both_sides.specs.declared.fault.RelayFault.TheVariants as faults
 

@@ -28,7 +28,8 @@ pub struct Both {
 
 impl Model for Both {
     ghost use Rattle.std.specs.Prelude.{◌≤◌, length};
-    ghost use Rattle.both_sides.specs.Both.{Joined, StandsForSome, IsWithin, joined};
+    ghost use Rattle.both_sides.specs.TwoEngines.{Joined, joined};
+    ghost use Rattle.both_sides.specs.working.TwoEngines.{StandsForSome, IsWithin};
 
     ghost Value = { Joined };
 
@@ -43,13 +44,13 @@ impl Both {
     ghost use Rattle.std.specs.Prelude.{◌≡◌, ◌<◌, ◌≤◌, ◌-◌, ◌^◌, List, [], ◌∷◌, false, length, IfOk};
     ghost use Rattle.wire_base.specs.declared.address.Link.TheVariants.{Raw};
     ghost use Rattle.pcap_file.specs.Records.{Packet};
-    ghost use Rattle.pcap_file.specs.Reads.{shown};
+    ghost use Rattle.pcap_file.specs.RecordReading.{shown};
     ghost use Rattle.rule_book.specs.Entries.{plain};
-    ghost use Rattle.norm_settings.specs.Settings.{plain_settings, AreInRange};
+    ghost use Rattle.norm_settings.specs.SettingValues.{plain_settings, AreInRange};
     ghost use Rattle.norm_engine.specs.Items.{Item};
     ghost use Rattle.norm_engine.specs.Trace.{item_of};
     ghost use Rattle.both_sides.specs.Traces.{mirrored, records_for};
-    ghost use Rattle.both_sides.specs.Both.{StandsFor};
+    ghost use Rattle.both_sides.specs.TwoEngines.{StandsFor};
 
     /// Creates two engines for records of a raw link, before the first of them.
     pub fn open(alloc: Global, settings: Settings) -> Result<Both, NoMemory>

@@ -1,27 +1,28 @@
 //! What is written for the frames of a record: each is written as it is, cut if it is longer than
 //! the MTU of the next link, or dropped.
 ghost use Rattle.std.specs.Prelude.{◌≡◌, ◌≤◌, ◌<◌, ◌+◌, ◌^◌, ◌||◌, ℕ, true, [], ◌∷◌, All, Some, length, slice_index, IfOk, IfSome, OnOk, OnErr};
-ghost use Rattle.edge_io.specs.Faults.{HasCause};
-ghost use Rattle.edge_io.specs.Octets.{Puts};
-ghost use Rattle.pcap_file.specs.Reads.{shown};
+ghost use Rattle.edge_io.specs.FaultCounts.{HasCause};
+ghost use Rattle.edge_io.specs.KnownOctets.{Puts};
+ghost use Rattle.pcap_file.specs.RecordReading.{shown};
 ghost use Rattle.rule_book.specs.Entries.{plain};
-ghost use Rattle.norm_engine.specs.Engine.{frames_given};
-ghost use Rattle.emit_mtu.specs.Frames.{AreOctets, IsSent};
-ghost use Rattle.emit_mtu.specs.Long.{long_kind};
+ghost use Rattle.norm_engine.specs.EngineState.{frames_given};
+ghost use Rattle.emit_mtu.specs.FrameParts.{AreOctets, IsSent};
+ghost use Rattle.emit_mtu.specs.LongFrames.{long_kind};
 ghost use Rattle.emit_mtu.specs.Segments.{segments};
-ghost use Rattle.emit_mtu.specs.Streams.{frames_for};
+ghost use Rattle.emit_mtu.specs.CutStreams.{frames_for};
 ghost use Rattle.emit_mtu.specs.declared.long.LongKind.TheVariants as kinds;
 ghost use Rattle.both_sides.specs.Frames.{frame_octets};
-ghost use Rattle.both_sides.specs.Cut as spec;
+ghost use Rattle.both_sides.specs.WrittenTrace as spec;
+ghost use Rattle.both_sides.specs.working.FrameReports as working;
 ghost use Rattle.wire_base.specs.declared.limits.TheConstants.{MAX_FRAME};
 ghost use Rattle.rule_book.specs.declared.entry.TheConstants.{MAX_NAMED};
 
 use crate::room::Room;
-use edge_io::{Failed, MAX_FRAME, Outbox, Sink};
+use edge_io::{MAX_FRAME, Outbox, Sink};
 use emit_mtu::laws::segments_fit;
 use emit_mtu::{Cutter, LongKind, long_kind};
 use ip_rules::write::put_read;
-use pcap_file::{Head, Record, write_record};
+use pcap_file::{Head, Record, WriteFault, write_record};
 use rule_book::{Entry, Rule, Verdict};
 
 /// Report on a frame, or on all frames of a record.
@@ -43,8 +44,8 @@ pub fn write_item<K: Sink>(
     head: &Head,
     input: &Record<'_>,
     capture: &mut K,
-) -> Result<(), Failed>
-    requires ready { spec.CanWrite room.old.mtu head.now.link (frames_given as_read input.now.bytes.now room.old.out) }
+) -> Result<(), WriteFault>
+    requires ready { working.CanWrite room.old.mtu head.now.link (frames_given as_read input.now.bytes.now room.old.out) }
     requires named { length room.old.entry.rules.items ≤ MAX_NAMED }
     requires empty { as_read ≡ true → room.old.out ≡ [] }
     requires short { as_read ≡ true → length input.now.bytes.now ≤ MAX_FRAME }
@@ -59,9 +60,7 @@ pub fn write_item<K: Sink>(
         return write_whole(as_read, &room.out, head, input, capture);
     };
     put_if(as_read, input.bytes, &mut room.out);
-    let Ok(emitted) = write_cut(&room.out, head, mtu, input, &mut room.segment, capture) else {
-        return Err(Failed);
-    };
+    let emitted = write_cut(&room.out, head, mtu, input, &mut room.segment, capture)?;
     tell_cut(emitted, &mut room.entry);
     Ok(())
 }
@@ -84,7 +83,7 @@ fn write_whole<K: Sink>(
     head: &Head,
     input: &Record<'_>,
     capture: &mut K,
-) -> Result<(), Failed>
+) -> Result<(), WriteFault>
     requires { as_read ≡ true → length input.now.bytes.now ≤ MAX_FRAME }
     ensures octets { Puts (K.held capture.old) (K.held capture.new) result
         (frame_octets head.now.order (shown input.now) (frames_given as_read input.now.bytes.now out.now)) }
@@ -98,16 +97,13 @@ fn write_whole<K: Sink>(
 }
 
 // Writes a record as it was read.
-fn write_read<K: Sink>(head: &Head, input: &Record<'_>, capture: &mut K) -> Result<(), Failed>
+fn write_read<K: Sink>(head: &Head, input: &Record<'_>, capture: &mut K) -> Result<(), WriteFault>
     requires { length input.now.bytes.now ≤ MAX_FRAME }
     ensures octets { Puts (K.held capture.old) (K.held capture.new) result
         (frame_octets head.now.order (shown input.now) (input.now.bytes.now ∷ [])) }
     ensures cause { HasCause (K.fault_count capture.old) (K.fault_count capture.new) result }
 {
-    if write_record(capture, head, input.seconds, input.fraction, input.bytes).is_err() {
-        return Err(Failed);
-    }
-    Ok(())
+    write_record(capture, head, input.seconds, input.fraction, input.bytes)
 }
 
 /// Writes the frames of a record as they are.
@@ -117,7 +113,7 @@ pub fn write_frames<K: Sink>(
     head: &Head,
     input: &Record<'_>,
     capture: &mut K,
-) -> Result<(), Failed>
+) -> Result<(), WriteFault>
     ensures octets { Puts (K.held capture.old) (K.held capture.new) result
         (frame_octets head.now.order (shown input.now) out.now) }
     ensures cause { HasCause (K.fault_count capture.old) (K.fault_count capture.new) result }
@@ -125,9 +121,7 @@ pub fn write_frames<K: Sink>(
 {
     for index in 0..out.frames() {
         let frame = out.frame(index);
-        if write_record(capture, head, input.seconds, input.fraction, frame).is_err() {
-            return Err(Failed);
-        }
+        write_record(capture, head, input.seconds, input.fraction, frame)?;
     }
     Ok(())
 }
@@ -140,7 +134,7 @@ fn write_cut<K: Sink>(
     input: &Record<'_>,
     segment: &mut [u8; MAX_FRAME],
     capture: &mut K,
-) -> Result<Emitted, Failed>
+) -> Result<Emitted, WriteFault>
     requires sent { All (IsSent head.now.link) out.now }
     requires least { 576 ≤ mtu }
     requires few { length (spec.frames_written (Some mtu) head.now.link out.now) < 256 }
@@ -148,7 +142,7 @@ fn write_cut<K: Sink>(
         (frame_octets head.now.order (shown input.now) (spec.frames_written (Some mtu) head.now.link out.now)) }
     ensures cause { HasCause (K.fault_count capture.old) (K.fault_count capture.new) result }
     ensures some { OnErr result (0 < length (spec.frames_written (Some mtu) head.now.link out.now)) }
-    ensures tells { IfOk result (spec.TellsAll mtu head.now.link out.now) }
+    ensures tells { IfOk result (working.TellsAll mtu head.now.link out.now) }
 {
     let mut emitted = Emitted {
         packets: 0,
@@ -157,9 +151,7 @@ fn write_cut<K: Sink>(
     };
     for index in 0..out.frames() {
         let frame = out.frame(index);
-        let Ok(one) = write_one(frame, head, mtu, input, segment, capture) else {
-            return Err(Failed);
-        };
+        let one = write_one(frame, head, mtu, input, segment, capture)?;
         emitted = joined(emitted, one);
     }
     Ok(emitted)
@@ -193,7 +185,7 @@ fn write_one<K: Sink>(
     input: &Record<'_>,
     segment: &mut [u8; MAX_FRAME],
     capture: &mut K,
-) -> Result<Emitted, Failed>
+) -> Result<Emitted, WriteFault>
     requires sent { IsSent head.now.link frame.now }
     requires short { length frame.now ≤ MAX_FRAME }
     requires least { 576 ≤ mtu }
@@ -201,13 +193,11 @@ fn write_one<K: Sink>(
         (frame_octets head.now.order (shown input.now) (frames_for head.now.link mtu frame.now)) }
     ensures cause { HasCause (K.fault_count capture.old) (K.fault_count capture.new) result }
     ensures some { OnErr result (0 < length (frames_for head.now.link mtu frame.now)) }
-    ensures tells { IfOk result (spec.TellsOne mtu head.now.link frame.now) }
+    ensures tells { IfOk result (working.TellsOne mtu head.now.link frame.now) }
 {
     match long_kind(head.link, frame, mtu) {
         LongKind::Fits => {
-            if write_record(capture, head, input.seconds, input.fraction, frame).is_err() {
-                return Err(Failed);
-            }
+            write_record(capture, head, input.seconds, input.fraction, frame)?;
             Ok(Emitted {
                 packets: 1,
                 cut: false,
@@ -215,9 +205,7 @@ fn write_one<K: Sink>(
             })
         }
         LongKind::Cut => {
-            let Ok(packets) = write_segments(frame, head, mtu, input, segment, capture) else {
-                return Err(Failed);
-            };
+            let packets = write_segments(frame, head, mtu, input, segment, capture)?;
             Ok(Emitted {
                 packets,
                 cut: true,
@@ -240,7 +228,7 @@ fn write_segments<K: Sink>(
     input: &Record<'_>,
     segment: &mut [u8; MAX_FRAME],
     capture: &mut K,
-) -> Result<u8, Failed>
+) -> Result<u8, WriteFault>
     requires sent { IsSent head.now.link frame.now }
     requires cut { long_kind head.now.link mtu frame.now ≡ kinds.Cut }
     requires least { 576 ≤ mtu }
@@ -256,9 +244,7 @@ fn write_segments<K: Sink>(
     let mut count = 0u8;
     while let Some(size) = cutter.next(&mut segment[..]) {
         let octets = &segment[..size];
-        if write_record(capture, head, input.seconds, input.fraction, octets).is_err() {
-            return Err(Failed);
-        }
+        write_record(capture, head, input.seconds, input.fraction, octets)?;
         count += 1;
     }
     Ok(count)

@@ -1,9 +1,9 @@
 //! One engine, or two if both sides are protected.
 ghost use Rattle.std.specs.Prelude.{◌≡◌, IfOk};
 ghost use Rattle.wire_base.specs.declared.address.Link.TheVariants.{Raw};
-ghost use Rattle.norm_settings.specs.Settings.{plain_settings, AreInRange, GoTogether};
-ghost use Rattle.both_sides.specs.Relays.{StandsForRun, link_of, settings_of};
-ghost use Rattle.both_sides.specs.Runs.{empty_run};
+ghost use Rattle.norm_settings.specs.SettingValues.{plain_settings, AreInRange, GoTogether};
+ghost use Rattle.both_sides.specs.RelayState.{StandsForRun, link_of, settings_of};
+ghost use Rattle.both_sides.specs.RunTraces.{empty_run};
 
 use crate::Both;
 use edge_io::NoMemory;

@@ -1,10 +1,10 @@
 //! Laws of the traces of two engines in sequence, of the traces of runs, and of the outputs for
 //! them.
-ghost use Rattle.both_sides.specs.Cut.{AgreesWhole, LawfulIsWrittenSoundly, MissesNothingWhole, ReadsWhole, WrittenWhole};
-ghost use Rattle.both_sides.specs.Laws.{BothAgree, FramesGoThrough};
+ghost use Rattle.both_sides.specs.WrittenTrace.{AgreesWhole, LawfulIsWrittenSoundly, MissesNothingWhole, ReadsWhole, WrittenWhole};
+ghost use Rattle.both_sides.specs.EngineLaws.{BothAgree, FramesGoThrough};
 ghost use Rattle.both_sides.specs.RunLaws.{LawfulRunsAreOne, OnePutsItsTrace, RunsAreWrittenSoundly, RunsBegin, RunsGoOn, TwoPutTheirMirror};
-ghost use Rattle.both_sides.specs.Brought.{RunsAreBrought, RunsReadRecords};
-ghost use Rattle.both_sides.specs.Recorded.{ErasOfRunsGoOn, RunsWereReadSo};
+ghost use Rattle.both_sides.specs.BroughtOctets.{RunsAreBrought, RunsReadRecords};
+ghost use Rattle.both_sides.specs.RecordedHost.{ErasOfRunsGoOn, RunsWereReadSo};
 
 use emit_mtu::laws::{
     cut_packets_are_of_the_stream, cut_packets_tell_one_stream, plain_packets_go_out,

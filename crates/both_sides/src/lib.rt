@@ -32,11 +32,10 @@ mod cut;
 mod engines;
 mod fault;
 pub mod laws;
-mod lines;
-mod one;
+mod one_engine;
 mod relay;
 mod room;
-mod two;
+mod two_engines;
 
 pub use both::Both;
 pub use engines::Engines;

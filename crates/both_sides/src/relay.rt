@@ -1,15 +1,26 @@
-//! The relay: each record of a capture is judged, and its output is written.
+//! The relay: judges each record of a capture, and writes its frames and its lines.
+ghost use Rattle.std.specs.Prelude.{◌≡◌, ◌++◌, IfSome, option_map};
+ghost use Rattle.edge_io.specs.FaultCounts.{HasCause};
+ghost use Rattle.edge_io.specs.KnownOctets.{Puts};
+ghost use Rattle.rule_book.specs.Entries.{plain, IsOfVersion};
+ghost use Rattle.rule_book.specs.Text.{entry_text};
+ghost use Rattle.both_sides.specs.working.FrameAnswers.{line_for};
+
 use crate::RelayFault;
 use crate::engines::Engines;
-use crate::one::relay_one;
+use crate::one_engine::relay_one;
 use crate::room::Room;
-use crate::two::relay_two;
-use edge_io::{NoMemory, Sink};
+use crate::two_engines::relay_two;
+use edge_io::{Failed, NoMemory, Sink};
 use norm_settings::Settings;
 use pcap_file::{Head, Record};
+use rule_book::{Entry, entry_line};
 use std::alloc::Global;
 use std::marker::Model;
 use wire_base::Link;
+
+/// Length of the buffer for a line, in octets.
+pub const LINE: usize = 400;
 
 /// Judges the records of a capture, one after another, and writes the output for each. Allocates
 /// all its memory when it is opened.
@@ -21,7 +32,7 @@ pub struct Relay {
 
 impl Model for Relay {
     ghost use Rattle.both_sides.specs.declared.engines.Engines.{Engines};
-    ghost use Rattle.both_sides.specs.Relays.{IsKept};
+    ghost use Rattle.both_sides.specs.working.RelayState.{IsKept};
 
     ghost Value = { Engines };
 
@@ -33,13 +44,13 @@ impl Model for Relay {
 impl Relay {
     ghost use Rattle.std.specs.Prelude.{◌≡◌, ◌≤◌, false, IfOk};
     ghost use Rattle.wire_base.specs.declared.address.Link.TheVariants.{Raw};
-    ghost use Rattle.pcap_file.specs.Reads.{shown};
-    ghost use Rattle.norm_settings.specs.Settings.{plain_settings, AreInRange, GoTogether};
-    ghost use Rattle.both_sides.specs.Puts.{next_put};
-    ghost use Rattle.both_sides.specs.Relays.{StandsForRun, is_full_of, link_of, records_of, settings_of};
-    ghost use Rattle.both_sides.specs.Runs.{RunHasOctets, RunTrace, empty_run, next_run};
+    ghost use Rattle.pcap_file.specs.RecordReading.{shown};
+    ghost use Rattle.norm_settings.specs.SettingValues.{plain_settings, AreInRange, GoTogether};
+    ghost use Rattle.both_sides.specs.RecordOutputs.{next_put};
+    ghost use Rattle.both_sides.specs.RelayState.{StandsForRun, is_full_of, link_of, records_of, settings_of};
+    ghost use Rattle.both_sides.specs.RunTraces.{RunHasOctets, RunTrace, empty_run, next_run};
     ghost use Rattle.both_sides.specs.Sinks.{sinks_of};
-    ghost use Rattle.both_sides.specs.Steps.{IsWritten};
+    ghost use Rattle.both_sides.specs.WrittenRecord.{IsWritten};
 
     /// Creates a relay for records of a raw link, before the first of them, with one engine, or
     /// with two if both sides are protected.
@@ -121,4 +132,33 @@ impl Relay {
             Engines::Two(both) => relay_two(both, &mut self.room, head, input, capture, report),
         }
     }
+}
+
+/// Writes the line of an entry.
+pub fn write_line<R: Sink>(
+    entry: &Entry,
+    line: &mut [u8; LINE],
+    report: &mut R,
+) -> Result<(), Failed>
+    requires { IsOfVersion 2 (plain entry.now) }
+    ensures octets { Puts (R.held report.old) (R.held report.new) result (entry_text (plain entry.now)) }
+    ensures cause { HasCause (R.fault_count report.old) (R.fault_count report.new) result }
+{
+    let size = entry_line(entry, &mut line[..]);
+    report.put(&line[..size])
+}
+
+/// Writes the line of the second engine, if it answered: that of its entry after `/`.
+pub fn write_answer<R: Sink>(answer: &Option<Entry>, report: &mut R) -> Result<(), Failed>
+    requires { IfSome (option_map plain answer.now) (IsOfVersion 2) }
+    ensures octets { Puts (R.held report.old) (R.held report.new) result (line_for (option_map plain answer.now)) }
+    ensures cause { HasCause (R.fault_count report.old) (R.fault_count report.new) result }
+{
+    let Some(entry) = answer else {
+        return Ok(());
+    };
+    let mut line = [0u8; LINE + 1];
+    line[0] = b'/';
+    let size = entry_line(entry, &mut line[1..]);
+    report.put(&line[..size + 1])
 }

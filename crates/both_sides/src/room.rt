@@ -1,7 +1,7 @@
 //! Buffers of one record.
 ghost use Rattle.std.specs.Prelude.{◌≡◌, IfOk};
 
-use crate::lines::LINE;
+use crate::relay::LINE;
 use edge_io::{MAX_FRAME, NoMemory, Outbox};
 use norm_engine::blank_entry;
 use rule_book::Entry;

@@ -1,6 +1,6 @@
 pub mod Outputs
-pub mod Runs
 pub mod Statuses
+pub mod Runs
+pub mod RunEnds
 pub mod Stops
-pub mod Tallies
 pub mod Loads

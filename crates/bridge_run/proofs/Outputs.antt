@@ -1,26 +1,23 @@
 -- What was given to the capture and the report, output by output, and which output failed.
-use Rattle.std.proofs.Common.{◌≡◌, ℕ, ◌<◌, true, Bool, List, [], ◌∷◌, ◌++◌, length, Option, None, Result, Ok, Err, refl, sym, ap, ◌∙◌, subst, arith, append_assoc, append-nil, ◌≤◌, Some, inl, inr, take, ap₂, is_err}
-use Rattle.std.proofs.KnownBytes.{Appends-nil, Appends-trans}
+use Rattle.std.proofs.Common.{◌≡◌, ℕ, ◌<◌, true, Bool, List, [], ◌∷◌, ◌++◌, length, Option, None, Result, Ok, Err, refl, sym, ap, ◌∙◌, subst, arith, append_assoc, append-nil, take, ap₂, is_err}
+use Rattle.std.proofs.KnownBytes.{Appends-trans}
 use Rattle.std.specs.Io.KnownBytes.{Appends}
 use Rattle.std.proofs.Math.Seq.{take-length}
-use Rattle.edge_io.specs.Octets.{AppendsPart, Flushes}
+use Rattle.edge_io.specs.KnownOctets.{AppendsPart, Flushes}
 use Rattle.pcap_file.specs.declared.head.Head.{Head}
-use Rattle.pcap_file.specs.Heads.{head_octets}
+use Rattle.pcap_file.specs.FileHead.{head_octets}
 use Rattle.rule_book.specs.declared.last.StopKind.TheVariants as kinds
 use Rattle.both_sides.specs.declared.fault.RelayFault.TheVariants as faults
 use Rattle.both_sides.specs.Outputs.{Output, to_capture, to_report, capture_hands_on, report_hands_on, cut, capture_part, report_part, Given, heading, CanFail, fault_at}
-use Rattle.both_sides.specs.Puts.{Put, octets_put, put_octets, text_put}
-use Rattle.edge_io.specs.Seen.{Seen}
+use Rattle.both_sides.specs.RecordOutputs.{Put, octets_put, put_octets, text_put}
 use Rattle.both_sides.specs.Sinks.{Sinks}
 use Rattle.both_sides.proofs.Outputs as puts
 use Rattle.both_sides.proofs.Outputs.{appended, stays}
 use Rattle.pcap_file.proofs.Records.{head_size}
-use Rattle.edge_io.specs.Faults.{HasCause}
 use Rattle.bridge_run.specs.declared.stop.Stop.{Stop}
 use Rattle.bridge_run.specs.declared.stop.Stop.TheVariants as stops
 use Rattle.bridge_run.specs.Outputs.{BreaksOff, outputs_of, stop_by}
-use Rattle.bridge_run.specs.Stops.{Kept, Told}
-use Rattle.bridge_run.specs.Rows.{GivenUpTo}
+use Rattle.bridge_run.specs.StatusMeanings.{GivenUpTo}
 
 -- Outputs that are given one after another.
 
@@ -117,6 +114,11 @@ pub untold : {T E : Type 0} (result : Result T E) (a b : Option (List ℕ)) → 
 untold (Ok v) a b failed p = absurd cc
 untold (Err e) a b failed p = p.1
 
+-- a flush gives a sink no octets
+pub flush_keeps : {T E : Type 0} (result : Result T E) (a b : Option (List ℕ)) → Flushes a b result → b ≡ a
+flush_keeps (Ok x) a b kept = kept
+flush_keeps (Err e) a b none = none.1 ∙ sym none.0
+
 -- the capture could not be flushed
 pub handing_broke : (others : List Output) (offset : ℕ) (a b : Sinks) → b.capture.octets ≡ None → b.capture.octets ≡ a.capture.octets → b.report.octets ≡ a.report.octets
     → BreaksOff [] (capture_hands_on ∷ others) offset (stops.At kinds.Capture offset) a b
@@ -195,34 +197,6 @@ flush_broke y offset a b mid untold same p kept = record {
 -- some octets are written for a head
 pub head_some : (head : Head) → 0 < length (head_octets head)
 head_some head = omega (arith, head_size head.order head.nano head.link)
-
--- Lines that are given after the sink was flushed.
-
--- a line that was given after the sink was flushed
-pub told_behind : {T E : Type 0} (result : Result T E) (a b c : Option (List ℕ)) (before mid now : ℕ) (line : List ℕ) → Flushes a b result → before ≤ mid → Told b c mid now line → Told a c before now line
-told_behind (Ok x) a b c before mid now line kept later told =
-    elim told [
-      | inl whole ↦ inl (subst (λ s. Appends s c line) kept whole)
-      | inr part ↦ inr (omega (arith, part.0, later), subst (λ s. AppendsPart s c line) kept part.1)
-    ]
-told_behind (Err e) a b c before mid now line none later told = inl (subst (λ s. Appends s c line) (sym none.0) tt)
-
--- if no line is given, the sink is only flushed
-pub told_after : {T E : Type 0} (result : Result T E) (a b : Option (List ℕ)) (before now : ℕ) → Flushes a b result → Told a b before now []
-told_after (Ok x) a b before now kept = inl (subst (λ s. Appends a s []) (sym kept) (Appends-nil a))
-told_after (Err e) a b before now none = inl (subst (λ s. Appends s b []) (sym none.0) tt)
-
--- a flush gives a sink no octets
-pub flush_keeps : {T E : Type 0} (result : Result T E) (a b : Option (List ℕ)) → Flushes a b result → b ≡ a
-flush_keeps (Ok x) a b kept = kept
-flush_keeps (Err e) a b none = none.1 ∙ sym none.0
-
--- a sink that was flushed
-pub kept_by : {T E : Type 0} (result : Result T E) (a b : Seen) → Flushes a.octets b.octets result → HasCause a.faults b.faults result → Kept a b
-kept_by (Ok x) a b kept cause = record { octets = kept; faults = λ octets told. cause.kept }
-kept_by (Err e) a b none cause = record { octets = none.1 ∙ sym none.0; faults = λ octets told. absurd (apart octets (sym none.0 ∙ told)) } where
-  apart : (octets : List ℕ) → ◌≡◌ {A = Option (List ℕ)} None (Some octets) → ⊥
-  apart octets e = cc
 
 -- Which output failed, and what was given before it.
 

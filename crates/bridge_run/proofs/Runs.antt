@@ -1,45 +1,41 @@
--- A run from record to record, from the head to the last line: what was read, given and counted,
--- and how it stops.
-use Rattle.std.proofs.Common.{◌+◌, ◌<◌, ◌-◌, ◌^◌, Bool, true, false, List, [], ◌∷◌, ◌++◌, Option, None, Ok, Err, Result, IfErr, refl, sym, ap, ap₂, subst, ◌∙◌, arith, suc, append-nil, ◌≡◌, ℕ, ◌*◌, ◌≤◌, length}
+-- A run from record to record, from the head on: what was read, given and counted, and how it
+-- stops.
+use Rattle.std.proofs.Common.{◌+◌, ◌<◌, ◌-◌, ◌^◌, Bool, true, false, List, [], ◌∷◌, Option, None, Ok, Err, Result, IfErr, refl, sym, ap, ap₂, subst, ◌∙◌, arith, suc, ◌≡◌, ℕ, ◌*◌, ◌≤◌, length}
 use Rattle.std.proofs.lemmas.Bool.Decides.{nat_tests}
 use Rattle.std.specs.Io.KnownBytes.{Appends}
 use Rattle.pcap_file.specs.declared.head.Head.{Head}
 use Rattle.capture_input.specs.declared.input.Input.{Input}
 use Rattle.capture_input.specs.declared.input.Input.TheVariants.{Classic, Sections}
-use Rattle.capture_input.specs.Inputs.{Walk, records, blocks, packets_in, place_behind, EndsAtNewest, Took, TookAll, TakenWhole}
-use Rattle.capture_input.specs.Reading.{Behind, head_in, asked_in, place_in}
-use Rattle.norm_settings.specs.Settings.{PlainSettings, AreInRange, GoTogether}
+use Rattle.capture_input.specs.Inputs.{Walk, records, blocks, packets_in, place_behind, EndsAtNewest, Took}
+use Rattle.capture_input.specs.ReaderState.{Behind, head_in, asked_in, place_in}
+use Rattle.norm_settings.specs.SettingValues.{PlainSettings}
 use Rattle.both_sides.specs.declared.engines.Engines.{Engines}
-use Rattle.edge_io.specs.Seen.{Seen}
+use Rattle.edge_io.specs.SeenEnds.{Seen}
 use Rattle.both_sides.specs.Outputs.{Given, capture_part, report_part}
-use Rattle.both_sides.specs.Puts.{count_put, puts, Put, next_put, put_outputs}
-use Rattle.both_sides.specs.Relays.{StandsForRun, link_of, settings_of, is_full_of, records_of}
-use Rattle.both_sides.specs.Runs.{LawfulRun, RunHasNoSide, RunHasOctets, RunTrace, packets_of, empty_run, next_run, one, two}
+use Rattle.both_sides.specs.RecordOutputs.{count_put, puts, Put, next_put, put_outputs}
+use Rattle.both_sides.specs.RelayState.{StandsForRun, link_of, settings_of, is_full_of, records_of}
+use Rattle.both_sides.specs.RunTraces.{LawfulRun, RunHasNoSide, RunHasOctets, RunTrace, packets_of, empty_run, next_run, one, two}
 use Rattle.wire_base.specs.declared.address.Link.{Link}
 use Rattle.pcap_file.specs.declared.record.Record.{Record}
 use Rattle.pcap_file.specs.Records.{Packet}
-use Rattle.pcap_file.specs.Reads.{shown}
+use Rattle.pcap_file.specs.RecordReading.{shown}
 use Rattle.capture_input.specs.declared.fault.InputFault.{InputFault}
-use Rattle.capture_input.specs.Reads.{Continues, GivesPacket, ReachesEnd, StopsAt, StopsBehind}
-use Rattle.capture_input.specs.Laws.{WholeIsInput}
-use Rattle.rule_book.specs.declared.last.Last.TheVariants.{End}
-use Rattle.rule_book.specs.Text.{last_text}
+use Rattle.capture_input.specs.RecordReading.{Continues, GivesPacket, StopsAt, StopsBehind}
 use Rattle.norm_engine.specs.Items.{Item, packets}
 use Rattle.both_sides.specs.declared.engines.Engines.TheVariants.{One, Two}
 use Rattle.both_sides.specs.declared.fault.RelayFault.{RelayFault}
-use Rattle.both_sides.specs.RunLaws.{GoesOn, RunIsWrittenSoundly, RunsAreWrittenSoundly, RunsBegin, RunsGoOn}
-use Rattle.both_sides.specs.Brought.{RunIsBrought, RunsAreBrought}
+use Rattle.both_sides.specs.RunLaws.{GoesOn, RunsBegin, RunsGoOn}
 use Rattle.both_sides.specs.Outputs as relayed
-use Rattle.both_sides.specs.Steps.{IsWritten}
-use Rattle.bridge_run.specs.Moments.{Moment, NoneRose}
-use Rattle.bridge_run.specs.Outputs.{outputs_of, BreaksOff, end_outputs, hand_outputs, stop_by}
-use Rattle.bridge_run.specs.Run.{IsFew, Begun, Ended}
-use Rattle.bridge_run.specs.Promises.{HaveTimes, CleanKeepPayload, FramesFit, InwardArePlain, MonitorMissesNothing, ReceiversAgree, ReceiversReadOneStream, StateIsBounded}
+use Rattle.both_sides.specs.WrittenRecord.{IsWritten}
+use Rattle.bridge_run.specs.RunMoments.{Moment, NoneRose}
+use Rattle.bridge_run.specs.Outputs.{outputs_of, BreaksOff, hand_outputs, stop_by}
+use Rattle.bridge_run.specs.RunContract.{IsFew}
+use Rattle.bridge_run.specs.working.RunParts.{Begun}
+use Rattle.bridge_run.specs.Promises.{HaveTimes}
 use Rattle.bridge_run.specs.declared.stop.Stop.{Stop}
-use Rattle.bridge_run.specs.Theorem.{Normalized}
-use Rattle.bridge_run.specs.Stopped.{StopsAtEnd, StopsAtPacket, StopsAtRecord, StopsAtTooMany, StopsBetween}
-use Rattle.bridge_run.specs.Ends.{Unchanged}
-use Rattle.bridge_run.proofs.Outputs.{capture_part-append, report_part-append, given_after, broke_behind, capture_is, report_is}
+use Rattle.bridge_run.specs.StoppedRun.{StopsAtPacket, StopsAtRecord, StopsAtTooMany, StopsBetween}
+use Rattle.bridge_run.specs.working.PartEnds.{Unchanged}
+use Rattle.bridge_run.proofs.Outputs.{given_after, broke_behind}
 
 -- The state of a run between records. Nothing is claimed of octets that are not known.
 
@@ -74,36 +70,6 @@ pub record Going (settings : PlainSettings) (head : Head) (before now : Moment) 
   pub few : frames ≤ 255 * length (packets_of run)
 
 -- How a run continues from record to record, and how it ends.
-
--- what is written soundly, promise by promise
-module _ (settings : PlainSettings) (link : Link) where
-  agree_in : (run : RunTrace) → RunIsWrittenSoundly settings link run → ReceiversAgree settings link run
-  agree_in (one trace) sound = sound.agree
-  agree_in (two trace mirror) sound = (sound.agree, sound.agree_behind, sound.through)
-
-  reads_in : (run : RunTrace) → RunIsWrittenSoundly settings link run → ReceiversReadOneStream settings link run
-  reads_in (one trace) sound = sound.reads
-  reads_in (two trace mirror) sound = (sound.reads, sound.reads_behind)
-
-  monitor_in : (run : RunTrace) → RunIsWrittenSoundly settings link run → MonitorMissesNothing settings link run
-  monitor_in (one trace) sound = sound.monitor
-  monitor_in (two trace mirror) sound = (sound.monitor, sound.monitor_behind)
-
-  within_in : (run : RunTrace) → RunIsWrittenSoundly settings link run → StateIsBounded settings link run
-  within_in (one trace) sound = sound.within
-  within_in (two trace mirror) sound = (sound.within, sound.within_behind)
-
-  clean_in : (run : RunTrace) → RunIsWrittenSoundly settings link run → CleanKeepPayload settings link run
-  clean_in (one trace) sound = sound.clean_kept
-  clean_in (two trace mirror) sound = (sound.clean_kept, sound.clean_kept_behind)
-
-  plain_in : (run : RunTrace) → RunIsWrittenSoundly settings link run → InwardArePlain settings link run
-  plain_in (one trace) sound = sound.plain
-  plain_in (two trace mirror) sound = (sound.plain, sound.plain_behind)
-
-  fit_in : (run : RunTrace) → RunIsWrittenSoundly settings link run → FramesFit settings link run
-  fit_in (one trace) sound = (sound.none_long, sound.short)
-  fit_in (two trace mirror) sound = sound.short
 
 length-packets : (trace : List Item) → length (packets trace) ≡ length trace
 length-packets [] = refl
@@ -150,7 +116,7 @@ sideless_more settings link (one trace) r lawful law older none = tt
 sideless_more settings link (two trace mirror) r lawful law older none = law.sideless older (none lawful.0)
 
 -- what was read after a walk
-took_on : (inside all b c : Option (List ℕ)) (mine head : Head) (walk farther : Walk) → mine ≡ head → Continues inside mine walk farther b c → Took inside all b head walk → Took inside all c head farther
+pub took_on : (inside all b c : Option (List ℕ)) (mine head : Head) (walk farther : Walk) → mine ≡ head → Continues inside mine walk farther b c → Took inside all b head walk → Took inside all c head farther
 took_on inside all b c mine head walk farther is continues took =
     subst (λ (h : Head). Took inside all c h farther) is (continues all (subst (λ (h : Head). Took inside all b h walk) (sym is) took))
 
@@ -360,75 +326,6 @@ module _ (settings : PlainSettings) (head : Head) (a b : Moment) (engines : Engi
             broke = broke_behind (outputs_of settings.both head (puts settings head.link run)) _ _ (stop_by fault given.offset) a.sinks b.sinks c.sinks going.so_far.given
                 (record { fault = fault; broke = broke; answered = ap (stop_by fault) gives.place });
           }
-
-  -- no packet was left
-  module _ (c : Moment) (input' : Input) (whole : WholeIsInput) (ends : ReachesEnd input input' settings.inside going.walk b.source.octets c.source.octets) (count : ℕ) (counts : count ≡ records_of engines) where
-    pub took_end : Took settings.inside a.source.octets c.source.octets head ends.farther
-    took_end = took_on settings.inside a.source.octets b.source.octets c.source.octets (head_in input) head going.walk ends.farther going.input_head ends.continues going.so_far.took
-
-    packets_end : packets_in ends.farther ≡ packets_of going.run
-    packets_end = ends.silent ∙ going.so_far.packets_are
-
-    all_taken : TookAll settings.inside a.source.octets head (packets_in ends.farther) × TakenWhole a.source.octets c.source.octets
-    all_taken = whole settings.inside a.source.octets b.source.octets c.source.octets head going.walk ends.farther going.so_far.took ends.whole took_end
-
-    -- the last line is written
-    pub normalized : RunsAreWrittenSoundly → RunsAreBrought → AreInRange settings → GoTogether settings → Ended count frames b.sinks c.sinks
-        → Normalized settings a.source.octets c.source.octets a.sinks.capture.octets c.sinks.capture.octets a.sinks.report.octets c.sinks.report.octets
-    normalized soundly traced range together ended =
-        let run = going.run in
-        let now = going.so_far in
-        let sound : RunIsWrittenSoundly settings head.link run = soundly settings head.link run range together now.lawful now.octets now.sideless in
-        let brought : RunIsBrought settings head.link run = traced settings head.link run range.hops now.lawful now.octets in
-        let out = puts settings head.link run in
-        let before = outputs_of settings.both head out in
-        let all : Given (before ++ end_outputs count frames) a.sinks c.sinks = given_after _ _ a.sinks b.sinks c.sinks now.given ended.given in
-        let line : last_text (End count frames) ++ [] ≡ last_text (End (length (packets_of run)) (count_put out)) =
-        append-nil _ ∙ ap₂ (λ x y. last_text (End x y)) (counts ∙ counted engines run going.stands) going.frames_are in
-        record {
-          head = head;
-          run = run;
-          range = range;
-          agree = agree_in settings head.link run sound;
-          reads = reads_in settings head.link run sound;
-          monitor = monitor_in settings head.link run sound;
-          lawful = now.lawful;
-          brought = brought.brought;
-          clashes = brought.clashes;
-          fragment_clashes = brought.fragment_clashes;
-          within = within_in settings head.link run sound;
-          clean = clean_in settings head.link run sound;
-          plain = plain_in settings head.link run sound;
-          fit = fit_in settings head.link run sound;
-          octets = now.octets;
-          times = now.times;
-          few = now.few;
-          whole = subst (TookAll settings.inside a.source.octets head) packets_end all_taken.0;
-          taken = all_taken.1;
-          frames_written = subst (Appends a.sinks.capture.octets c.sinks.capture.octets) (capture_part-append before _ ∙ append-nil _ ∙ capture_is settings.both head out) all.capture;
-          report_written = subst (Appends a.sinks.report.octets c.sinks.report.octets)
-              (report_part-append before _ ∙ ap₂ (λ x y. x ++ y) (report_is settings.both head out) line) all.report;
-        }
-
-    -- an output at the end failed
-    pub stops_at_end : (offset : ℕ) (stop : Stop) → offset ≡ asked_in input' → BreaksOff [] (end_outputs count frames) offset stop b.sinks c.sinks → StopsAtEnd settings stop a c
-    stops_at_end offset stop place broke =
-        let run = going.run in
-        let out = puts settings head.link run in
-        let outputs : end_outputs count frames ≡ end_outputs (length (packets_of run)) (count_put out) = ap₂ end_outputs (counts ∙ counted engines run going.stands) going.frames_are in
-        record {
-          head = head;
-          run = run;
-          lawful = going.so_far.lawful;
-          few = going.so_far.few;
-          walk = ends.farther;
-          packets_are = packets_end;
-          took = took_end;
-          taken = all_taken.1;
-          broke = broke_behind (outputs_of settings.both head out) _ _ stop a.sinks b.sinks c.sinks going.so_far.given
-              (subst (λ o. BreaksOff [] (end_outputs (length (packets_of run)) (count_put out)) o stop b.sinks c.sinks) (place ∙ ends.place)
-              (subst (λ next. BreaksOff [] next offset stop b.sinks c.sinks) outputs broke));
-        }
 
   -- the next record of the input could not be read
   pub stops_at_record : (c : Moment) (input' : Input) (fault : InputFault) (offset : ℕ) → StopsBehind input input' settings.inside going.walk b.source.octets c.source.octets fault

@@ -1,26 +1,31 @@
--- The status of a stop: which fault, failed sink or record too many it means, and what the source
--- had left.
-use Rattle.std.proofs.Common.{◌≡◌, ◌==◌, ℕ, ◌≤◌, true, false, List, length, Option, Some, None, refl, sym, ap, subst, ◌∙◌, arith, ◌⊎◌, inl, inr}
-use Rattle.edge_io.specs.Faults.{Rose}
+-- The status of a stop: which fault, failed sink or record too many it means, what the source had
+-- left, and the line that is given of it.
+use Rattle.std.proofs.Common.{◌≡◌, ◌==◌, ℕ, ◌≤◌, true, false, List, length, Option, Some, None, refl, sym, ap, subst, ◌∙◌, arith, ◌⊎◌, inl, inr, [], Result, Ok, Err}
+use Rattle.edge_io.specs.FaultCounts.{Rose, HasCause}
 use Rattle.capture_input.specs.declared.fault.InputFault.{InputFault}
 use Rattle.capture_input.specs.declared.fault.InputFault.TheVariants as faults
 use Rattle.capture_input.specs.Faults.{is_read_fault}
 use Rattle.capture_input.specs.Inputs.{FailsAt, HasFaultAt, Took, TookAll}
-use Rattle.capture_input.specs.Laws.{FaultExcludesEnd, FaultIsOne, HeadStopsAreFaults, HeadStopsLeaveNone, InputHasAll, StopsAreFaults, StopsLeaveNone}
-use Rattle.capture_input.specs.Reads.{StopsInHead}
+use Rattle.capture_input.specs.InputLaws.{FaultExcludesEnd, FaultIsOne, HeadStopsAreFaults, HeadStopsLeaveNone, InputHasAll, StopsAreFaults, StopsLeaveNone}
+use Rattle.capture_input.specs.RecordReading.{StopsInHead}
 use Rattle.rule_book.specs.declared.last.StopKind.TheVariants as kinds
-use Rattle.norm_settings.specs.Settings.{PlainSettings}
-use Rattle.both_sides.specs.Runs.{packets_of}
+use Rattle.norm_settings.specs.SettingValues.{PlainSettings}
+use Rattle.both_sides.specs.RunTraces.{packets_of}
 use Rattle.both_sides.specs.declared.fault.RelayFault.{RelayFault}
 use Rattle.both_sides.specs.declared.fault.RelayFault.TheVariants as sinks
 use Rattle.both_sides.specs.Sinks.{OnlyRose}
 use Rattle.bridge_run.specs.declared.stop.Stop.{Stop}
 use Rattle.bridge_run.specs.declared.stop.Stop.TheVariants as stops
-use Rattle.bridge_run.specs.Moments.{Moment, NoneRose}
-use Rattle.bridge_run.specs.Stops.{AreFew, BeginsTooMany, Faulted, FirstFault, fault_kind, kind_status, status_of, stop_at_fault, is_faulty, IsFaulty, IsCutShort, IsWhole, WasFaulty, WasCut, WasTooMany, WereFew}
+use Rattle.bridge_run.specs.RunMoments.{Moment, NoneRose}
+use Rattle.bridge_run.specs.StopReasons.{AreFew, BeginsTooMany, Faulted, FirstFault, fault_kind, kind_status, status_of, is_faulty, IsFaulty, IsCutShort, IsWhole, WasFaulty, WasCut, WasTooMany, WereFew, Kept, Told}
+use Rattle.bridge_run.specs.working.FaultStops.{stop_at_fault}
 use Rattle.bridge_run.specs.Theorem.{Normalized}
-use Rattle.bridge_run.specs.Stopped.{Faulty, Stands, StopsAtTooMany, Unwritten}
+use Rattle.bridge_run.specs.StoppedRun.{Faulty, Stands, StopsAtTooMany, Unwritten}
 use Rattle.bridge_run.specs.Outputs.{stop_by}
+use Rattle.std.proofs.KnownBytes.{Appends-nil}
+use Rattle.std.specs.Io.KnownBytes.{Appends}
+use Rattle.edge_io.specs.KnownOctets.{AppendsPart, Flushes}
+use Rattle.edge_io.specs.SeenEnds.{Seen}
 
 -- The status of a stop, and its consequences.
 
@@ -290,3 +295,26 @@ stands_faulty settings faults.Block offset a c p = p
 stands_faulty settings faults.Long offset a c p = p
 stands_faulty settings faults.Many offset a c p = inl p
 stands_faulty settings faults.ReadFault offset a c p = p
+
+-- Lines that are given after the sink was flushed.
+
+-- a line that was given after the sink was flushed
+pub told_behind : {T E : Type 0} (result : Result T E) (a b c : Option (List ℕ)) (before mid now : ℕ) (line : List ℕ) → Flushes a b result → before ≤ mid → Told b c mid now line → Told a c before now line
+told_behind (Ok x) a b c before mid now line kept later told =
+    elim told [
+      | inl whole ↦ inl (subst (λ s. Appends s c line) kept whole)
+      | inr part ↦ inr (omega (arith, part.0, later), subst (λ s. AppendsPart s c line) kept part.1)
+    ]
+told_behind (Err e) a b c before mid now line none later told = inl (subst (λ s. Appends s c line) (sym none.0) tt)
+
+-- if no line is given, the sink is only flushed
+pub told_after : {T E : Type 0} (result : Result T E) (a b : Option (List ℕ)) (before now : ℕ) → Flushes a b result → Told a b before now []
+told_after (Ok x) a b before now kept = inl (subst (λ s. Appends a s []) (sym kept) (Appends-nil a))
+told_after (Err e) a b before now none = inl (subst (λ s. Appends s b []) (sym none.0) tt)
+
+-- a sink that was flushed
+pub kept_by : {T E : Type 0} (result : Result T E) (a b : Seen) → Flushes a.octets b.octets result → HasCause a.faults b.faults result → Kept a b
+kept_by (Ok x) a b kept cause = record { octets = kept; faults = λ octets told. cause.kept }
+kept_by (Err e) a b none cause = record { octets = none.1 ∙ sym none.0; faults = λ octets told. absurd (apart octets (sym none.0 ∙ told)) } where
+  apart : (octets : List ℕ) → ◌≡◌ {A = Option (List ℕ)} None (Some octets) → ⊥
+  apart octets e = cc

@@ -3,30 +3,30 @@ use Rattle.std.proofs.Common.{◌≡◌, ℕ, ◌<◌, ◌==◌, List, [], ◌�
 use Rattle.std.proofs.Math.Seq.{take-nil}
 use Rattle.std.proofs.KnownBytes.{Appends-trans}
 use Rattle.std.specs.Io.KnownBytes.{Appends}
-use Rattle.edge_io.specs.Faults.{Rose}
+use Rattle.edge_io.specs.FaultCounts.{Rose}
 use Rattle.pcap_file.specs.declared.head.Head.{Head}
-use Rattle.pcap_file.specs.declared.order.Order.{Order}
-use Rattle.pcap_file.specs.Heads.{head_octets}
+use Rattle.pcap_file.specs.declared.record.Order.{Order}
+use Rattle.pcap_file.specs.FileHead.{head_octets}
 use Rattle.pcap_file.specs.Records.{record_octets}
 use Rattle.capture_input.specs.declared.fault.InputFault.{InputFault}
 use Rattle.capture_input.specs.declared.fault.InputFault.TheVariants as faults
 use Rattle.capture_input.specs.Inputs.{newest_place, place_behind, Took, TakenWhole}
-use Rattle.capture_input.specs.Reads.{StopsInHead, StopsAt}
+use Rattle.capture_input.specs.RecordReading.{StopsInHead, StopsAt}
 use Rattle.rule_book.specs.declared.last.Last.TheVariants as last
 use Rattle.rule_book.specs.declared.last.StopKind.TheVariants as kinds
 use Rattle.rule_book.specs.Text.{last_text}
-use Rattle.norm_settings.specs.Settings.{PlainSettings}
+use Rattle.norm_settings.specs.SettingValues.{PlainSettings}
 use Rattle.both_sides.specs.Outputs.{to_capture, to_report, capture_hands_on, report_hands_on, heading, capture_part, report_part}
-use Rattle.both_sides.specs.Puts.{Put, count_put, next_put, octets_put, put_octets, puts}
-use Rattle.both_sides.specs.Runs.{packets_of}
-use Rattle.edge_io.specs.Seen.{Seen}
+use Rattle.both_sides.specs.RecordOutputs.{Put, count_put, next_put, octets_put, put_octets, puts}
+use Rattle.both_sides.specs.RunTraces.{packets_of}
+use Rattle.edge_io.specs.SeenEnds.{Seen}
 use Rattle.bridge_run.specs.declared.stop.Stop.{Stop}
 use Rattle.bridge_run.specs.declared.stop.Stop.TheVariants as stops
-use Rattle.bridge_run.specs.Moments.{Moment}
+use Rattle.bridge_run.specs.RunMoments.{Moment}
 use Rattle.bridge_run.specs.Outputs.{first_outputs, outputs_of}
-use Rattle.bridge_run.specs.Stops.{FirstFault, Told, fault_kind, status_of, stop_line, memory_line}
-use Rattle.bridge_run.specs.Stopped.{Stands, Faulty, Unwritten, StopsAtHead, StopsAtRecord, StopsAtTooMany, Stopped, StoppedUnder, LoadStopped, Finishes, SaysOnly}
-use Rattle.bridge_run.specs.Rows.{Says, GivenUpTo, stop_of, capture_octets, report_octets, EndsAtHead, EndsAtRecord, EndsAtFault, EndsByTooMany, EndsFaulty, EndsCut, EndsUnread, EndsUnwritten, EndsUntold, EndsRefused, EndsSummed, EndsSummedInPart, UnderWords, UnderLoad}
+use Rattle.bridge_run.specs.StopReasons.{FirstFault, Told, fault_kind, status_of, stop_line, memory_line}
+use Rattle.bridge_run.specs.StoppedRun.{Stands, Faulty, Unwritten, StopsAtHead, StopsAtRecord, StopsAtTooMany, Stopped, StoppedUnder, LoadStopped, Finishes, SaysOnly}
+use Rattle.bridge_run.specs.StatusMeanings.{Says, GivenUpTo, stop_of, capture_octets, report_octets, EndsAtHead, EndsAtRecord, EndsAtFault, EndsByTooMany, EndsFaulty, EndsCut, EndsUnread, EndsUnwritten, EndsUntold, EndsRefused, EndsSummed, EndsSummedInPart, UnderWords, UnderLoad}
 use Rattle.bridge_run.proofs.Outputs.{capture_is, report_is, no_capture, capture_fails, first_fails, handing_fails, report_handing_fails, no_report, line_fails, nothing, handing}
 use Rattle.bridge_run.proofs.Statuses.{known_of}
 

@@ -4,7 +4,7 @@
 -- `hand_outputs` names them.
 use Rattle.std.specs.Prelude.{◌≡◌, ℕ, Bool, List, [], ◌∷◌, ◌++◌}
 use Rattle.pcap_file.specs.declared.head.Head.{Head}
-use Rattle.pcap_file.specs.Heads.{head_octets}
+use Rattle.pcap_file.specs.FileHead.{head_octets}
 use Rattle.rule_book.specs.declared.last.Last.TheVariants.{End}
 use Rattle.rule_book.specs.declared.last.StopKind.TheVariants as kinds
 use Rattle.rule_book.specs.Text.{last_text}
@@ -12,7 +12,7 @@ use Rattle.both_sides.specs.declared.fault.RelayFault.{RelayFault}
 use Rattle.both_sides.specs.declared.fault.RelayFault.TheVariants as faults
 use Rattle.both_sides.specs.Outputs.{Output, to_capture, to_report, capture_hands_on, report_hands_on, heading}
 use Rattle.both_sides.specs.Outputs as relayed
-use Rattle.both_sides.specs.Puts.{Put, put_outputs}
+use Rattle.both_sides.specs.RecordOutputs.{Put, put_outputs}
 use Rattle.both_sides.specs.Sinks.{Sinks}
 use Rattle.bridge_run.specs.declared.stop.Stop.{Stop}
 use Rattle.bridge_run.specs.declared.stop.Stop.TheVariants as stops

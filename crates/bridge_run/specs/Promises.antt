@@ -4,15 +4,15 @@ use Rattle.std.specs.Prelude.{ℕ, ◌<◌, ◌^◌, List}
 use Rattle.std.specs.List.{AllByRecursion}
 use Rattle.wire_base.specs.declared.address.Link.{Link}
 use Rattle.pcap_file.specs.Records.{Packet}
-use Rattle.norm_settings.specs.Settings.{PlainSettings}
+use Rattle.norm_settings.specs.SettingValues.{PlainSettings}
 use Rattle.norm_engine.specs.Agreement.{Agree, AtEachHistory, MissesNothing, ReadsOneStream}
-use Rattle.norm_engine.specs.Clean.{CleanIsKept}
-use Rattle.norm_engine.specs.Laws.{IsAlwaysWithin}
-use Rattle.norm_engine.specs.Sending.{ArePlainInwards, AreReadAlike, HasShortFrames}
-use Rattle.both_sides.specs.Laws.{InwardGoesThrough}
+use Rattle.norm_engine.specs.CleanRecords.{CleanIsKept}
+use Rattle.norm_engine.specs.TraceLaws.{IsAlwaysWithin}
+use Rattle.norm_engine.specs.SentFrames.{ArePlainInwards, AreReadAlike, HasShortFrames}
+use Rattle.both_sides.specs.EngineLaws.{InwardGoesThrough}
 use Rattle.both_sides.specs.Traces.{mirrored}
-use Rattle.both_sides.specs.Cut.{AgreeAsWritten, CleanIsWritten, MissesNothingAsWritten, NoneIsLong, ReadsOneStreamAsWritten, written}
-use Rattle.both_sides.specs.Runs.{RunTrace, one, two}
+use Rattle.both_sides.specs.WrittenTrace.{AgreeAsWritten, CleanIsWritten, MissesNothingAsWritten, NoneIsLong, ReadsOneStreamAsWritten, written}
+use Rattle.both_sides.specs.RunTraces.{RunTrace, one, two}
 
 -- In each era any two receivers of the family that start at the same offset agree: the stream of
 -- one is a prefix of the other's. It does not matter which of the frames written inwards reach them

@@ -4,24 +4,24 @@ use Rattle.std.specs.Prelude.{◌≡◌, ℕ, ◌+◌, ◌==◌, ◌⊎◌, not,
 use Rattle.std.specs.List.{flat_map, count_by}
 use Rattle.std.specs.Option.{is_some}
 use Rattle.std.specs.Io.KnownBytes.{Appends}
-use Rattle.edge_io.specs.Faults.{Rose}
-use Rattle.edge_io.specs.Octets.{AppendsPart}
+use Rattle.edge_io.specs.FaultCounts.{Rose}
+use Rattle.edge_io.specs.KnownOctets.{AppendsPart}
 use Rattle.wire_base.specs.declared.address.Link.TheVariants.{Raw}
 use Rattle.rule_book.specs.declared.rule.Rule.{Rule}
 use Rattle.rule_book.specs.declared.load.LoadLine.{LoadLine}
 use Rattle.rule_book.specs.declared.load.LoadLine.TheVariants as lines
 use Rattle.rule_book.specs.Rules.{rule_number}
 use Rattle.rule_book.specs.Entries.{PlainEntry}
-use Rattle.rule_book.specs.Loads.{load_text}
-use Rattle.norm_settings.specs.Settings.{PlainSettings, standard}
-use Rattle.norm_settings.specs.Asked.{asked, load}
+use Rattle.rule_book.specs.LoadText.{load_text}
+use Rattle.norm_settings.specs.SettingValues.{PlainSettings, standard}
+use Rattle.norm_settings.specs.AskedCommand.{asked, load}
 use Rattle.norm_engine.specs.Items.{Item, packets}
 use Rattle.norm_engine.specs.Trace.{Lawful}
-use Rattle.load_make.specs.Generated.{Generated}
+use Rattle.load_make.specs.LoadRecords.{Generated}
 use Rattle.both_sides.specs.Frames.{frame_count}
-use Rattle.edge_io.specs.Seen.{Seen}
+use Rattle.edge_io.specs.SeenEnds.{Seen}
 use Rattle.bridge_run.specs.declared.tally.RuleCount.{RuleCount}
-use Rattle.bridge_run.specs.Stops.{Told, memory_line}
+use Rattle.bridge_run.specs.StopReasons.{Told, memory_line}
 
 -- the settings of a load: the standard ones, with 10.0.0.0/8 as trusted prefix
 abbrev pub load_settings : PlainSettings

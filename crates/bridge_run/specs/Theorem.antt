@@ -4,13 +4,13 @@
 use Rattle.std.specs.Prelude.{◌≡◌, ℕ, ◌-◌, ◌^◌, ◌≤◌, true, List, ◌++◌, length, Option}
 use Rattle.std.specs.Io.KnownBytes.{Appends}
 use Rattle.pcap_file.specs.declared.head.Head.{Head}
-use Rattle.pcap_file.specs.Heads.{head_octets}
+use Rattle.pcap_file.specs.FileHead.{head_octets}
 use Rattle.capture_input.specs.Inputs.{TookAll, TakenWhole}
 use Rattle.rule_book.specs.declared.last.Last.TheVariants.{End}
-use Rattle.norm_settings.specs.Settings.{AreInRange, PlainSettings}
-use Rattle.both_sides.specs.Puts.{count_put, octets_put, puts, report_of}
-use Rattle.both_sides.specs.Brought.{RunInventsNothing, RunNamesEachClash, RunNamesEachFragmentClash, RunReadsRecords}
-use Rattle.both_sides.specs.Runs.{LawfulRun, RunHasOctets, RunTrace, packets_of}
+use Rattle.norm_settings.specs.SettingValues.{AreInRange, PlainSettings}
+use Rattle.both_sides.specs.RecordOutputs.{count_put, octets_put, puts, report_of}
+use Rattle.both_sides.specs.BroughtOctets.{RunInventsNothing, RunNamesEachClash, RunNamesEachFragmentClash, RunReadsRecords}
+use Rattle.both_sides.specs.RunTraces.{LawfulRun, RunHasOctets, RunTrace, packets_of}
 use Rattle.bridge_run.specs.Promises.{CleanKeepPayload, FramesFit, HaveTimes, InwardArePlain, MessagesAreReadAlike, MonitorMissesNothing, ReceiversAgree, ReceiversReadOneStream, StateIsBounded}
 
 -- A capture was normalized under these settings. `source` has the octets not yet read before the

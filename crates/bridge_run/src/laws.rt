@@ -1,9 +1,9 @@
 //! The meaning of each status: laws over the state when a run has stopped.
 ghost use Rattle.std.specs.Prelude.{◌⊎◌};
-ghost use Rattle.bridge_run.specs.Recorded.{NormalizedErasGoOn, NormalizedWasReadSo};
-ghost use Rattle.bridge_run.specs.Rows.{Leaves, UnderWords, UnderLoad, EndsSummed, EndsSummedInPart, EndsRefused, EndsFaulty, EndsCut, EndsUnread, EndsUnwritten, EndsUntold};
-ghost use Rattle.bridge_run.specs.Stopped.{Finishes, SaysOnly};
-ghost use Rattle.bridge_run.specs.Stops.{memory_line};
+ghost use Rattle.bridge_run.specs.RecordedHost.{NormalizedErasGoOn, NormalizedWasReadSo};
+ghost use Rattle.bridge_run.specs.StatusMeanings.{Leaves, UnderWords, UnderLoad, EndsSummed, EndsSummedInPart, EndsRefused, EndsFaulty, EndsCut, EndsUnread, EndsUnwritten, EndsUntold};
+ghost use Rattle.bridge_run.specs.StoppedRun.{Finishes, SaysOnly};
+ghost use Rattle.bridge_run.specs.StopReasons.{memory_line};
 ghost use Rattle.bridge_run.specs.Theorem.{NormalizedIsReadAlike, NormalizedReadsRecords};
 
 use both_sides::laws::{eras_of_runs_go_on, unchanged_runs_were_read_so};

@@ -1,14 +1,15 @@
 //! The run over a load: records that are made from a number.
 ghost use Rattle.std.specs.Prelude.{◌≡◌, ◌⊎◌, ◌≤◌, [], ◌∷◌, ◌++◌, map, IfOk};
 ghost use Rattle.std.specs.List.{flat_map};
-ghost use Rattle.edge_io.specs.Faults.{Rose, HasCause};
-ghost use Rattle.edge_io.specs.Octets.{Puts};
+ghost use Rattle.edge_io.specs.FaultCounts.{Rose, HasCause};
+ghost use Rattle.edge_io.specs.KnownOctets.{Puts};
 ghost use Rattle.wire_base.specs.declared.address.Link.TheVariants.{Raw};
-ghost use Rattle.rule_book.specs.Loads.{load_text};
-ghost use Rattle.norm_settings.specs.Settings.{plain_settings, AreInRange};
-ghost use Rattle.norm_engine.specs.Engine.{StandsFor};
-ghost use Rattle.bridge_run.specs.Loads as spec;
-ghost use Rattle.bridge_run.specs.Stops as stops;
+ghost use Rattle.rule_book.specs.LoadText.{load_text};
+ghost use Rattle.norm_settings.specs.SettingValues.{plain_settings, AreInRange};
+ghost use Rattle.norm_engine.specs.EngineState.{StandsFor};
+ghost use Rattle.bridge_run.specs.LoadMoments as spec;
+ghost use Rattle.bridge_run.specs.working.LoadTally as working;
+ghost use Rattle.bridge_run.specs.StopReasons as stops;
 ghost use Rattle.bridge_run.specs.Summary as summary;
 
 use crate::stop::tell_memory;
@@ -89,7 +90,7 @@ fn summarize(room: &mut Room, seed: u64, count: u32) -> ArrayVec<LoadLine, 69>
     requires stands { StandsFor room.old.engine [] }
     requires settings { room.old.engine.settings ≡ summary.load_settings }
     requires link { room.old.engine.link ≡ Raw }
-    ensures { spec.SumsUp seed count result.items }
+    ensures { working.SumsUp seed count result.items }
 {
     items_are_counted();
     let tally = tally_of(&mut room.engine, &mut room.out, seed, count);
@@ -101,7 +102,7 @@ fn tally_of(engine: &mut Engine, out: &mut Outbox, seed: u64, count: u32) -> Tal
     requires stands { StandsFor engine.old [] }
     requires settings { engine.old.settings ≡ summary.load_settings }
     requires link { engine.old.link ≡ Raw }
-    ensures { spec.IsTallied seed count engine.new.records result }
+    ensures { working.IsTallied seed count engine.new.records result }
 {
     items_are_counted();
     let mut load = Load::new(seed, count);
@@ -116,7 +117,7 @@ fn tally_of(engine: &mut Engine, out: &mut Outbox, seed: u64, count: u32) -> Tal
 
 // Returns the lines of the summary.
 fn summary_of(seed: u64, count: u32, records: u32, tally: &Tally) -> ArrayVec<LoadLine, 69>
-    ensures { result.items ≡ spec.lines_of seed count records tally.now }
+    ensures { result.items ≡ working.lines_of seed count records tally.now }
 {
     let mut lines = ArrayVec::new();
     lines.push(LoadLine::Load { seed, count });
@@ -141,9 +142,7 @@ fn put_lines<R: Sink>(lines: &[LoadLine], report: &mut R) -> Result<(), Failed>
     for line in lines {
         let mut text = [0u8; 64];
         let size = load_line(*line, &mut text);
-        if report.put(&text[..size]).is_err() {
-            return Err(Failed);
-        }
+        report.put(&text[..size])?;
     }
     report.flush()
 }

@@ -1,18 +1,18 @@
 //! The run over a capture.
 ghost use Rattle.std.specs.Prelude.{◌≡◌, ◌⊎◌, ◌≤◌, [], length, map, option_map, string_bytes, vec_len, IfOk, IfErr, IfSome, OnOk};
-ghost use Rattle.edge_io.specs.Faults.{Rose};
-ghost use Rattle.norm_settings.specs.Settings.{plain_settings, AreInRange, GoTogether};
+ghost use Rattle.edge_io.specs.FaultCounts.{Rose};
+ghost use Rattle.norm_settings.specs.SettingValues.{plain_settings, AreInRange, GoTogether};
 ghost use Rattle.both_sides.specs.Outputs.{heading};
-ghost use Rattle.both_sides.specs.Relays.{StandsForRun, settings_of};
-ghost use Rattle.both_sides.specs.Runs.{empty_run};
+ghost use Rattle.both_sides.specs.RelayState.{StandsForRun, settings_of};
+ghost use Rattle.both_sides.specs.RunTraces.{empty_run};
 ghost use Rattle.both_sides.specs.Sinks.{sinks_of};
-ghost use Rattle.bridge_run.specs.Moments.{moment_of};
-ghost use Rattle.bridge_run.specs.Moments as moments;
-ghost use Rattle.bridge_run.specs.Ends as ends;
-ghost use Rattle.bridge_run.specs.Stopped as stopped;
-ghost use Rattle.bridge_run.specs.Stops as stops;
-ghost use Rattle.bridge_run.specs.Run as spec;
-ghost use Rattle.bridge_run.specs.Rows.{UnderWords};
+ghost use Rattle.bridge_run.specs.RunMoments.{moment_of};
+ghost use Rattle.bridge_run.specs.RunMoments as moments;
+ghost use Rattle.bridge_run.specs.working.PartEnds as ends;
+ghost use Rattle.bridge_run.specs.StoppedRun as stopped;
+ghost use Rattle.bridge_run.specs.StopReasons as stops;
+ghost use Rattle.bridge_run.specs.RunContract as spec;
+ghost use Rattle.bridge_run.specs.StatusMeanings.{UnderWords};
 ghost use Rattle.wire_base.specs.declared.limits.TheConstants.{MAX_CAPTURED};
 
 use crate::load::run_load;

@@ -1,11 +1,12 @@
 //! Why a run stops before it has finished, and the line that reports it.
 ghost use Rattle.std.specs.Prelude.{◌≡◌, ◌≤◌, ◌<◌, codes};
-ghost use Rattle.edge_io.specs.Faults.{Rose};
+ghost use Rattle.edge_io.specs.FaultCounts.{Rose};
 ghost use Rattle.rule_book.specs.Text.{last_text};
-ghost use Rattle.norm_settings.specs.Faults.{number_of};
+ghost use Rattle.norm_settings.specs.RefusalNumbers.{number_of};
 ghost use Rattle.rule_book.specs.declared.last.StopKind.TheVariants as kinds;
 ghost use Rattle.bridge_run.specs.Outputs as outputs;
-ghost use Rattle.bridge_run.specs.Stops as spec;
+ghost use Rattle.bridge_run.specs.StopReasons as spec;
+ghost use Rattle.bridge_run.specs.working.FaultStops as working;
 
 use both_sides::RelayFault;
 use capture_input::InputFault;
@@ -50,7 +51,7 @@ fn kind_status(kind: StopKind) -> u8
 
 /// Returns the stop at the head, record or block with this fault, which begins at this offset.
 pub fn stop_at_fault(fault: InputFault, offset: u64) -> Stop
-    ensures { result ≡ spec.stop_at_fault fault offset }
+    ensures { result ≡ working.stop_at_fault fault offset }
 {
     let kind = match fault {
         InputFault::Cut => StopKind::Cut,

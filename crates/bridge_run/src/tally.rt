@@ -4,7 +4,7 @@ ghost use Rattle.std.specs.List.{list_any};
 ghost use Rattle.rule_book.specs.declared.rule.Rule as rules;
 ghost use Rattle.rule_book.specs.Entries.{plain};
 ghost use Rattle.bridge_run.specs.Summary.{eras_of, is_same, rule_counts};
-ghost use Rattle.bridge_run.specs.Counting.{counted_once};
+ghost use Rattle.bridge_run.specs.working.RuleCounts.{counted_once};
 
 use arrayvec::ArrayVec;
 use rule_book::{Entry, Rule};

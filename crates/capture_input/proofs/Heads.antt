@@ -2,22 +2,23 @@
 use Rattle.std.proofs.Common.{◌≡◌, ℕ, ◌<◌, ◌≤◌, Bool, true, false, List, [], ◌∷◌, ◌++◌, length, take, Option, Some, None, IsSome, Result, Ok, Err, refl, sym, ap, ◌∙◌, subst, arith, inl, inr, append-nil, take_all, take_at, bytes_eq}
 use Rattle.std.proofs.lemmas.Bool.{cases_lt}
 use Rattle.std.specs.Io.KnownBytes.{Consumes, IsAtEnd, prepend_known}
-use Rattle.edge_io.specs.Octets.{TakesFewer}
+use Rattle.edge_io.specs.KnownOctets.{TakesFewer}
 use Rattle.wire_base.specs.declared.address.Link.{Link}
 use Rattle.pcap_file.specs.declared.head.Head.{Head}
 use Rattle.pcap_file.specs.declared.head.HeadFault.{HeadFault}
 use Rattle.pcap_file.specs.declared.head.HeadFault.TheVariants as heads
 use Rattle.pcap_file.specs.Flaws.{cut_short}
-use Rattle.pcap_file.specs.Heads.{head_of}
-use Rattle.pcap_file.specs.ReadsHead.{ReadsHead, Begins, Judges}
-use Rattle.pcap_file.specs.Reading.{Reading}
+use Rattle.pcap_file.specs.FileHead.{head_of}
+use Rattle.pcap_file.specs.HeadReading.{ReadsHead, Begins}
+use Rattle.pcap_file.specs.working.HeadParsing.{Judges}
+use Rattle.pcap_file.specs.ReaderState.{Reading}
 use Rattle.pcap_file.proofs.Records.{whole, begins_short, judged}
 use Rattle.pcapng_file.specs.declared.fault.NgFault.TheVariants as blocks_fault
-use Rattle.pcapng_file.specs.Standing.{Sections, no_section}
+use Rattle.pcapng_file.specs.SectionState.{Sections, no_section}
 use Rattle.pcapng_file.specs.Blocks.{Step}
 use Rattle.pcapng_file.specs.Sections.{Walks, behind, EndsAtInterface}
-use Rattle.pcapng_file.specs.Reading.{NgReading, written_head}
-use Rattle.pcapng_file.specs.Reads.{OpensAt}
+use Rattle.pcapng_file.specs.ReaderState.{NgReading, written_head}
+use Rattle.pcapng_file.specs.RecordReading.{OpensAt}
 use Rattle.pcapng_file.proofs.Sections.{blocks_counted}
 use Rattle.capture_input.specs.declared.fault.InputFault.{InputFault}
 use Rattle.capture_input.specs.declared.fault.InputFault.TheVariants as faults
@@ -26,7 +27,7 @@ use Rattle.capture_input.specs.declared.input.Input.{Input}
 use Rattle.capture_input.specs.declared.input.Input.TheVariants as kinds
 use Rattle.capture_input.specs.Faults.{at_first}
 use Rattle.capture_input.specs.Inputs.{records, blocks, section_octets, is_sections, classic_head, IsHeadOf, BlocksEndAt, Took}
-use Rattle.capture_input.specs.Reads as reads
+use Rattle.capture_input.specs.RecordReading as reads
 
 -- the head of a classic file of fewer than 24 octets
 short_reads : (a b : Option (List ℕ)) (x : List ℕ) (result : Result Head HeadFault) → Begins a b (Err cut_short) → head_of x ≡ Err cut_short → Judges x result → ReadsHead a b result

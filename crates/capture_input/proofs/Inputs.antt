@@ -6,13 +6,13 @@ use Rattle.std.proofs.lemmas.List.{length-append, nil_from_length}
 use Rattle.wire_base.specs.declared.address.Link.{Link}
 use Rattle.pcap_file.specs.declared.head.Head.{Head}
 use Rattle.pcap_file.specs.Flaws.{Flaw}
-use Rattle.pcap_file.specs.Heads.{head_of}
+use Rattle.pcap_file.specs.FileHead.{head_of}
 use Rattle.pcap_file.specs.Records.{Packet}
 use Rattle.pcap_file.specs.Capture.{IsCapture, ReadsTo}
 use Rattle.pcap_file.specs.Capture as classic
 use Rattle.pcap_file.proofs.Captures as capture_laws
 use Rattle.pcapng_file.specs.declared.fault.NgFault.{NgFault}
-use Rattle.pcapng_file.specs.Standing.{no_section, Sections}
+use Rattle.pcapng_file.specs.SectionState.{no_section, Sections}
 use Rattle.pcapng_file.specs.Blocks.{Step, end_by, block_at}
 use Rattle.pcapng_file.specs.Sections.{IsSections, behind, packets_of, Walks, with_given, EndsAtInterface}
 use Rattle.pcapng_file.specs.Sections as sections
@@ -20,11 +20,11 @@ use Rattle.pcapng_file.proofs.Fronts.{at_nothing}
 use Rattle.pcapng_file.proofs.Sections as section_laws
 use Rattle.pcap_file.proofs.Captures.{same_records}
 use Rattle.pcapng_file.proofs.Sections.{same_steps, behind_on, packets_on, links_stay}
-use Rattle.pcapng_file.specs.Reading.{written_head}
+use Rattle.pcapng_file.specs.ReaderState.{written_head}
 use Rattle.capture_input.specs.declared.fault.InputFault.{InputFault}
 use Rattle.capture_input.specs.Faults.{of_flaw, of_block}
 use Rattle.capture_input.specs.Inputs.{Walk, records, blocks, is_sections, classic_head, IsHeadOf, packets_in, BeginsWith, BeginsClassic, BeginsSections, IsFlawed, FailsAt, place_behind, BlocksEndAt, EndsWell, EndsBadly}
-use Rattle.capture_input.specs.Laws.{InputIsOne, FaultIsOne, FaultExcludesEnd, BeginningIsOne, EachInputEnds}
+use Rattle.capture_input.specs.InputLaws.{InputIsOne, FaultIsOne, FaultExcludesEnd, BeginningIsOne, EachInputEnds}
 use Rattle.capture_input.specs.declared.fault.InputFault.TheVariants as faults
 use Rattle.capture_input.proofs.Heads.{behind_interface}
 use Rattle.capture_input.proofs.Steps.{some_link}

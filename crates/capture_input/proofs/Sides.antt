@@ -1,11 +1,11 @@
 -- If the name of the inside interface is not given, no record has a side.
 use Rattle.std.proofs.Common.{◌≡◌, ℕ, ◌+◌, ◌*◌, ◌/◌, ◌%◌, ◌-◌, ◌==◌, ◌^◌, not, nat_lt, Bool, true, false, List, [], ◌∷◌, ◌++◌, length, take, drop, slice_get, Option, Some, None, Result, Ok, Err, refl, ap, subst, if◌then◌else◌, IfSome, option_map}
 use Rattle.wire_base.specs.declared.address.Link.{Link}
-use Rattle.pcap_file.specs.declared.order.Order.{Order}
+use Rattle.pcap_file.specs.declared.record.Order.{Order}
 use Rattle.pcap_file.specs.declared.record.Record.{Record}
-use Rattle.pcap_file.specs.Heads.{link_of}
-use Rattle.pcap_file.specs.Numbers.{u16_at, u32_at}
-use Rattle.pcap_file.specs.Reads as classic
+use Rattle.pcap_file.specs.FileHead.{link_of}
+use Rattle.pcap_file.specs.FileNumbers.{u16_at, u32_at}
+use Rattle.pcap_file.specs.RecordReading as classic
 use Rattle.pcap_file.specs.Records.{Packet}
 use Rattle.pcapng_file.specs.declared.fault.NgFault.{NgFault}
 use Rattle.pcapng_file.specs.declared.fault.NgFault.TheVariants as faults
@@ -15,16 +15,16 @@ use Rattle.pcapng_file.specs.declared.content.Content.{Content}
 use Rattle.pcapng_file.specs.declared.content.Content.TheVariants as says
 use Rattle.pcapng_file.specs.declared.content.Found.{Found}
 use Rattle.pcapng_file.specs.declared.content.Found.TheVariants as is
-use Rattle.pcapng_file.specs.Options.{padded, options_of, described}
-use Rattle.pcapng_file.specs.Standing.{Sections, counted}
-use Rattle.pcapng_file.specs.Contents.{section_type, interface_type, enhanced_type, simple_type, old_packet_type, section_says, interface_says, linked_says, enhanced_says, enhanced_of, timed_says, simple_says, simple_of, simple_sized, clipped, is_link, side_by, per_second, nanos_each, content_of, found_of, interface_found}
+use Rattle.pcapng_file.specs.InterfaceOptions.{padded, options_of, described}
+use Rattle.pcapng_file.specs.SectionState.{Sections, counted}
+use Rattle.pcapng_file.specs.BlockContents.{section_type, interface_type, enhanced_type, simple_type, old_packet_type, section_says, interface_says, linked_says, enhanced_says, enhanced_of, timed_says, simple_says, simple_of, simple_sized, clipped, is_link, side_by, per_second, nanos_each, content_of, found_of, interface_found}
 use Rattle.pcapng_file.specs.Blocks.{Step, before, block_at, end_by, is_size, order_at, ordered_at, sized_at, step_of, told}
 use Rattle.pcapng_file.specs.Sections.{Walks, behind}
-use Rattle.pcapng_file.specs.Reading.{NgReading}
-use Rattle.pcapng_file.specs.Reads as sections
+use Rattle.pcapng_file.specs.ReaderState.{NgReading}
+use Rattle.pcapng_file.specs.RecordReading as sections
 use Rattle.capture_input.specs.declared.input.Input.TheVariants as kinds
 use Rattle.capture_input.specs.Inputs.{Walk, records, blocks}
-use Rattle.capture_input.specs.Reading.{Behind}
+use Rattle.capture_input.specs.ReaderState.{Behind}
 
 -- a fact of a choice
 choose : {X : Type 0} (P : X → Type 0) (b : Bool) (x y : X) → P x → P y → P (if b then x else y)

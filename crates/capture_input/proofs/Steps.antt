@@ -3,25 +3,25 @@ use Rattle.std.proofs.Common.{◌≡◌, ℕ, ◌+◌, Bool, true, false, List, 
 use Rattle.std.specs.Io.KnownBytes.{Consumes, IsAtEnd}
 use Rattle.wire_base.specs.declared.address.Link.{Link}
 use Rattle.pcap_file.specs.declared.head.Head.{Head}
-use Rattle.pcap_file.specs.declared.order.Order.{Order}
+use Rattle.pcap_file.specs.declared.record.Order.{Order}
 use Rattle.pcap_file.specs.declared.record.Record.{Record}
 use Rattle.pcap_file.specs.declared.reader.RecordFault.{RecordFault}
 use Rattle.pcap_file.specs.Records.{Packet, front_of}
-use Rattle.pcap_file.specs.Reading.{Reading}
-use Rattle.pcap_file.specs.Reads as classic
+use Rattle.pcap_file.specs.ReaderState.{Reading}
+use Rattle.pcap_file.specs.RecordReading as classic
 use Rattle.pcapng_file.specs.declared.fault.NgFault.{NgFault}
-use Rattle.pcapng_file.specs.Standing.{Sections, no_section}
+use Rattle.pcapng_file.specs.SectionState.{Sections, no_section}
 use Rattle.pcapng_file.specs.Blocks.{Step}
 use Rattle.pcapng_file.specs.Sections as walked
 use Rattle.pcapng_file.specs.Sections.{Walks, behind, packets_of, with_given}
-use Rattle.pcapng_file.specs.Reading.{NgReading, written_head}
-use Rattle.pcapng_file.specs.Reads as sections
+use Rattle.pcapng_file.specs.ReaderState.{NgReading, written_head}
+use Rattle.pcapng_file.specs.RecordReading as sections
 use Rattle.pcapng_file.proofs.Sections.{walks_on, behind_on, packets_on, size_on, links_stay, blocks_counted, packets_few}
 use Rattle.capture_input.specs.declared.input.Input.TheVariants as kinds
 use Rattle.capture_input.specs.Faults.{of_record, of_block}
 use Rattle.capture_input.specs.Inputs.{Walk, records, blocks, IsHeadOf, BlocksEndAt, Took, TakenWhole}
-use Rattle.capture_input.specs.Reading.{Behind, BehindRecords, BehindBlocks}
-use Rattle.capture_input.specs.Reads.{Continues, Reads, GivesPacket, ReachesEnd, StopsBehind}
+use Rattle.capture_input.specs.ReaderState.{Behind, BehindRecords, BehindBlocks}
+use Rattle.capture_input.specs.RecordReading.{Continues, Reads, GivesPacket, ReachesEnd, StopsBehind}
 
 -- records
 

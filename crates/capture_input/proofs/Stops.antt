@@ -7,15 +7,15 @@ use Rattle.pcap_file.specs.declared.head.Head.{Head}
 use Rattle.pcap_file.specs.declared.reader.RecordFault.{RecordFault}
 use Rattle.pcap_file.specs.declared.reader.RecordFault.TheVariants as record_faults
 use Rattle.pcap_file.specs.Flaws.{cut_short, too_long, too_many}
-use Rattle.pcap_file.specs.Reads as classic
+use Rattle.pcap_file.specs.RecordReading as classic
 use Rattle.pcapng_file.specs.declared.fault.NgFault.{NgFault}
 use Rattle.pcapng_file.specs.declared.fault.NgFault.TheVariants as block_faults
-use Rattle.pcapng_file.specs.Standing.{Sections, no_section}
+use Rattle.pcapng_file.specs.SectionState.{Sections, no_section}
 use Rattle.pcapng_file.specs.Blocks.{block_at, Step}
 use Rattle.pcapng_file.specs.Sections.{Walks, behind, packets_of}
-use Rattle.pcapng_file.specs.Reads as sections
+use Rattle.pcapng_file.specs.RecordReading as sections
 use Rattle.wire_base.specs.declared.address.Link.{Link}
-use Rattle.pcap_file.specs.Heads.{head_of}
+use Rattle.pcap_file.specs.FileHead.{head_of}
 use Rattle.pcap_file.specs.Capture.{ReadsTo}
 use Rattle.pcap_file.proofs.Captures.{HasNoRecord, none_at_end, none_at_flaw, goes_on}
 use Rattle.pcapng_file.proofs.Sections.{behind_on, links_stay, packets_on}
@@ -24,8 +24,8 @@ use Rattle.capture_input.specs.declared.fault.InputFault.{InputFault}
 use Rattle.capture_input.specs.declared.fault.InputFault.TheVariants as faults
 use Rattle.capture_input.specs.Faults.{of_record, of_block, is_read_fault}
 use Rattle.capture_input.specs.Inputs.{records, blocks, FailsBeforeInterface, IsFlawedRecord, Took, HasFaultAt, Walk, classic_head, packets_in, BeginsWith, IsHeadOf}
-use Rattle.capture_input.specs.Reads.{StopsInClassicHead, StopsBeforeInterface, StopsClassic, IsRefused}
-use Rattle.capture_input.specs.Laws.{HeadStopsAreFaults, StopsAreFaults, WholeIsInput, HeadStopsLeaveNone, InputHasAll, StopsLeaveNone}
+use Rattle.capture_input.specs.RecordReading.{StopsInClassicHead, StopsBeforeInterface, StopsClassic, IsRefused}
+use Rattle.capture_input.specs.InputLaws.{HeadStopsAreFaults, StopsAreFaults, WholeIsInput, HeadStopsLeaveNone, InputHasAll, StopsLeaveNone}
 use Rattle.capture_input.proofs.Inputs.{go_on, accepted, ends_by, one_kind}
 
 -- The known octets of a source where a call fails, or at the end.

@@ -6,14 +6,14 @@ use Rattle.std.specs.Str.{bytes_eq}
 use Rattle.wire_base.specs.declared.address.Link.{Link}
 use Rattle.pcap_file.specs.declared.head.Head.{Head}
 use Rattle.pcap_file.specs.Flaws.{Flaw}
-use Rattle.pcap_file.specs.Heads.{head_of}
+use Rattle.pcap_file.specs.FileHead.{head_of}
 use Rattle.pcap_file.specs.Records.{Packet, front_of}
 use Rattle.pcap_file.specs.Capture.{ReadsTo, offset_of}
 use Rattle.pcapng_file.specs.declared.fault.NgFault.{NgFault}
-use Rattle.pcapng_file.specs.Standing.{no_section}
+use Rattle.pcapng_file.specs.SectionState.{no_section}
 use Rattle.pcapng_file.specs.Blocks.{Step, block_at}
 use Rattle.pcapng_file.specs.Sections.{Walks, behind, packets_of, size_of, size_before, EndsAtInterface}
-use Rattle.pcapng_file.specs.Reading.{written_head}
+use Rattle.pcapng_file.specs.ReaderState.{written_head}
 use Rattle.capture_input.specs.declared.fault.InputFault.{InputFault}
 use Rattle.capture_input.specs.declared.fault.InputFault.TheVariants as faults
 use Rattle.capture_input.specs.Faults.{of_flaw, of_block}

@@ -1,5 +1,5 @@
 pub mod Faults
 pub mod Inputs
-pub mod Reading
-pub mod Reads
-pub mod Laws
+pub mod ReaderState
+pub mod RecordReading
+pub mod InputLaws

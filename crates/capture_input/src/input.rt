@@ -1,11 +1,11 @@
 //! A reader of the records of a capture, one by one.
 ghost use Rattle.std.specs.Prelude.{◌≡◌, ◌≤◌, ℕ, List, length, true, false, None, option_map, IfOk, IfSome};
 ghost use Rattle.std.specs.declared.option.Option.{Option};
-ghost use Rattle.edge_io.specs.Faults.{Rose};
+ghost use Rattle.edge_io.specs.FaultCounts.{Rose};
 ghost use Rattle.capture_input.specs.Faults.{has_read_fault, only_fault};
 ghost use Rattle.capture_input.specs.Inputs.{Walk};
-ghost use Rattle.capture_input.specs.Reading.{head_in, asked_in, place_in, is_open_in, Behind};
-ghost use Rattle.capture_input.specs.Reads.{Opens, Reads};
+ghost use Rattle.capture_input.specs.ReaderState.{head_in, asked_in, place_in, is_open_in, Behind};
+ghost use Rattle.capture_input.specs.RecordReading.{Opens, Reads};
 ghost use Rattle.wire_base.specs.declared.limits.TheConstants.{MAX_CAPTURED};
 
 use crate::opening::{open_classic, open_sections};

@@ -1,5 +1,5 @@
 //! Laws over the definitions alone.
-ghost use Rattle.capture_input.specs.Laws.{InputIsOne, BeginningIsOne, FaultIsOne, FaultExcludesEnd, EachInputEnds, HeadStopsAreFaults, HeadStopsLeaveNone, InputHasAll, StopsAreFaults, StopsLeaveNone, WholeIsInput};
+ghost use Rattle.capture_input.specs.InputLaws.{InputIsOne, BeginningIsOne, FaultIsOne, FaultExcludesEnd, EachInputEnds, HeadStopsAreFaults, HeadStopsLeaveNone, InputHasAll, StopsAreFaults, StopsLeaveNone, WholeIsInput};
 
 /// States that an input has one head and one list of records.
 pub fn input_is_one()

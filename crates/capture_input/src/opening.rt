@@ -1,10 +1,11 @@
 //! Opening of a capture whose first octets were read before.
 ghost use Rattle.std.specs.Prelude.{◌≡◌, ◌≤◌, length, true, false, option_map, IfSome, IsErrOf};
 ghost use Rattle.std.specs.Io.KnownBytes.{prepend_known};
-ghost use Rattle.edge_io.specs.Faults.{Rose};
-ghost use Rattle.pcap_file.specs.ReadsHead.{ReadsHead, KeepsCount, Judges};
+ghost use Rattle.edge_io.specs.FaultCounts.{Rose};
+ghost use Rattle.pcap_file.specs.HeadReading.{ReadsHead, KeepsCount};
+ghost use Rattle.pcap_file.specs.working.HeadParsing.{Judges};
 ghost use Rattle.capture_input.specs.Faults.{has_read_fault, only_fault};
-ghost use Rattle.capture_input.specs.Reads.{Opens, IsKind};
+ghost use Rattle.capture_input.specs.RecordReading.{Opens, IsKind};
 
 use crate::{Input, InputFault, OpenFault};
 use edge_io::{Failed, Source};
@@ -17,8 +18,8 @@ struct Nothing;
 
 impl Source for Nothing {
     ghost use Rattle.std.specs.Prelude.{Some, []};
-    ghost use Rattle.edge_io.specs.Faults.{HasCause};
-    ghost use Rattle.edge_io.specs.Octets.{Fetches};
+    ghost use Rattle.edge_io.specs.FaultCounts.{HasCause};
+    ghost use Rattle.edge_io.specs.KnownOctets.{Fetches};
 
     ghost left = { λ _. Some [] };
 

@@ -6,8 +6,8 @@ use Rattle.std.proofs.lemmas.Bool.Decides.{nat_tests}
 use Rattle.std.proofs.lemmas.List.{get_or-set_same, get_or-set_other, get_or_append_left, get_or-append_right, get_or-replicate, get_or-drop, length-replicate}
 use Rattle.std.proofs.lemmas.List.FromFn.{get_or-map-range_with_len, fill_by_all, length-map-range_with_len}
 use Rattle.std.proofs.lemmas.Nat.Bits.{shr_and_one, bit_at_set_same, bit_at_set_other, bit_at_and, ones_shl, bit_at_mask_inside, bit_at_mask_below, bit_at-zero, bit_at-lt, same_from_bits_below}
-use Rattle.cell_pool.specs.Packed.{octet_at, octets_of, HasBitsFrom}
-use Rattle.cell_pool.specs.Lists.{without_below}
+use Rattle.cell_pool.specs.working.PackedOctets.{octet_at, octets_of, HasBitsFrom}
+use Rattle.cell_pool.specs.ChainLists.{without_below}
 
 -- `word & (MAX << place)` has the bits of `word` from `place` on
 pub bits_above : (word place : ℕ) → place < 64 → HasBitsFrom place word

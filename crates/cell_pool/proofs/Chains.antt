@@ -5,8 +5,9 @@ use Rattle.std.proofs.lemmas.List.{length-map, get_or-map, get_or_default}
 use Rattle.cell_pool.specs.declared.cells.Cell.{Cell}
 use Rattle.cell_pool.specs.declared.cells.CellId.{CellId}
 use Rattle.cell_pool.specs.declared.cells.ChainId.{ChainId}
-use Rattle.cell_pool.specs.Lists.{Held, first_id, last_id, IsRising, BeginsAbove, EndsBelow, Lists, chain_at, Stands, IsHeld, IsHeldWith, IsPlace}
-use Rattle.cell_pool.specs.Links.{cell_at, next_at, held_at, walk, IsNext, Leads, IsList, head_at, blank_cell, blank_head, cells_of, lists_of, owner_of, IsSound}
+use Rattle.cell_pool.specs.ChainLists.{Held, first_id, last_id, IsRising, BeginsAbove, EndsBelow, Lists, chain_at, Stands, IsHeld, IsHeldWith, IsPlace}
+use Rattle.cell_pool.specs.CellLinks.{cell_at, next_at, held_at, walk, blank_cell, cells_of, lists_of}
+use Rattle.cell_pool.specs.working.SoundLinks.{IsNext, Leads, IsList, head_at, blank_head, owner_of, IsSound}
 use Rattle.cell_pool.specs.declared.cells.Head.{Head}
 
 -- Consequences of links that lead through a list of cells, and what a write preserves of them.

@@ -5,8 +5,9 @@ use Rattle.std.proofs.lemmas.List.{get_or-set_same, get_or_default}
 use Rattle.cell_pool.specs.declared.cells.Cell.{Cell}
 use Rattle.cell_pool.specs.declared.cells.Head.{Head}
 use Rattle.cell_pool.specs.declared.cells.CellId.{CellId}
-use Rattle.cell_pool.specs.Lists.{Lists, Held, IsRising, chain_at, with_chain, empty_cell, IsPlace, BeginsAbove, TakesAfter, HasPlaceFor, HasCellAfter}
-use Rattle.cell_pool.specs.Links.{cell_at, next_at, held_at, owner_of, walk, Leads, IsList, fresh_cell, blank_cell, head_at, with_next}
+use Rattle.cell_pool.specs.ChainLists.{Lists, Held, IsRising, chain_at, with_chain, empty_cell, IsPlace, BeginsAbove, TakesAfter, HasPlaceFor, HasCellAfter}
+use Rattle.cell_pool.specs.CellLinks.{cell_at, next_at, held_at, walk, blank_cell}
+use Rattle.cell_pool.specs.working.SoundLinks.{owner_of, Leads, IsList, fresh_cell, head_at, with_next}
 use Rattle.cell_pool.proofs.Chains.{FoundAt, Avoids, avoids_other, avoids_itself, Changes, Leads-kept, walked, Shows, no_last, insert_at, IsRising-more, chain_leads, chain_count, chain_rises, head_read, place_leads, place_last, is_other, found, remove_at, IsRising-less}
 use Rattle.cell_pool.proofs.Pools.{IsUpdate, only_own, only_free, one_change, two_changes, linked_at, written_at}
 

@@ -1,7 +1,7 @@
 -- The effect of one call on a pool whose chains are known.
 use Rattle.std.proofs.Common.{◌≡◌, ℕ, suc, ◌+◌, ◌-◌, ◌<◌, List, [], ◌∷◌, ◌++◌, length, get_or, set, Option, Some, None, IsNone, IfSome, refl, sym, ap, ◌∙◌, arith, append-nil}
 use Rattle.cell_pool.specs.declared.cells.CellId.{CellId}
-use Rattle.cell_pool.specs.Lists.{Lists, Held, chain_at, empty_cell, last_id, BeginsAbove, EndsBelow, IsPlace, HasPlaceFor, HasCellAfter, TakesAfter, GivesBackAfter}
+use Rattle.cell_pool.specs.ChainLists.{Lists, Held, chain_at, empty_cell, last_id, BeginsAbove, EndsBelow, IsPlace, HasPlaceFor, HasCellAfter, TakesAfter, GivesBackAfter}
 
 -- the pool has these chains, and `free` cells are free
 pub record Has (pool : Lists) (chains : List (List Held)) (free : ℕ) : Type 0 where

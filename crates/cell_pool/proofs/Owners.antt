@@ -12,8 +12,9 @@ use Rattle.cell_pool.specs.declared.cells.Cell.{Cell}
 use Rattle.cell_pool.specs.declared.cells.Head.{Head}
 use Rattle.cell_pool.specs.declared.cells.CellId.{CellId}
 use Rattle.cell_pool.specs.declared.cells.ChainId.{ChainId}
-use Rattle.cell_pool.specs.Lists.{Lists, Held, Stands, StandsUpTo, chain_at, StandsOnce}
-use Rattle.cell_pool.specs.Links.{blank_cell, cell_at, next_at, held_at, head_at, walk, cells_of, owner_of, Leads, IsList}
+use Rattle.cell_pool.specs.ChainLists.{Lists, Held, Stands, StandsUpTo, chain_at, StandsOnce}
+use Rattle.cell_pool.specs.CellLinks.{blank_cell, cell_at, next_at, held_at, walk, cells_of}
+use Rattle.cell_pool.specs.working.SoundLinks.{head_at, owner_of, Leads, IsList}
 use Rattle.cell_pool.proofs.Chains.{owner_number, Avoids, FoundAt, avoids_other, avoids_itself, Shows, within, chain_is, stands_is, Leads_unique, stands_at}
 
 -- A cell whose owner is a chain is in that chain: the lengths of all lists add up to the number of

@@ -9,8 +9,9 @@ use Rattle.cell_pool.specs.declared.cells.Cell.{Cell}
 use Rattle.cell_pool.specs.declared.cells.Head.{Head}
 use Rattle.cell_pool.specs.declared.cells.CellId.{CellId}
 use Rattle.cell_pool.specs.declared.cells.ChainId.{ChainId}
-use Rattle.cell_pool.specs.Lists.{Lists, Held, IsRising, with_chain, Stands}
-use Rattle.cell_pool.specs.Links.{blank_cell, blank_head, cell_at, head_at, cells_of, lists_of, owner_of, Leads, IsList, IsSound, with_next, walk, next_at, loose_cell, IsReady}
+use Rattle.cell_pool.specs.ChainLists.{Lists, Held, IsRising, with_chain, Stands}
+use Rattle.cell_pool.specs.CellLinks.{blank_cell, cell_at, cells_of, lists_of, walk, next_at}
+use Rattle.cell_pool.specs.working.SoundLinks.{blank_head, head_at, owner_of, Leads, IsList, IsSound, with_next, loose_cell, IsReady}
 use Rattle.cell_pool.proofs.Chains.{owner_number, avoids_other, Changes, Leads-kept, IsWalked, walked, Shows, chains_same, within, overwrite_at, IsRising-octets, free_is, chain_leads, chain_count, chain_rises, stands_at, stands_is}
 
 -- A pool after one chain, the free list and at most two cells were written.

@@ -11,8 +11,8 @@ use Rattle.std.proofs.lemmas.Nat.{and_le_r}
 use Rattle.std.proofs.lemmas.Nat.Bits.{bit_at_and, bit_at_xor, bit_at_ones, bit_at_ones_above, bit_at-zero, bit_at-lt, same_from_bits_below, bit_at_or}
 use borrow.Rule.Slice.PartMut.{put_mid}
 use Rattle.std.proofs.lemmas.List.Edits.{get_or-between, length-between}
-use Rattle.cell_pool.specs.Packed.{octet_at, octets_of, HasOnesBetween, IsMask, bit_of}
-use Rattle.cell_pool.specs.Lists.{IsBlank, IsCovered, StandsFrom, with_run}
+use Rattle.cell_pool.specs.working.PackedOctets.{octet_at, octets_of, HasOnesBetween, IsMask, bit_of}
+use Rattle.cell_pool.specs.ChainLists.{IsBlank, IsCovered, StandsFrom, with_run}
 use Rattle.cell_pool.proofs.Bits.{octet_read, octets_by, length-octets_of}
 
 -- Masks of offsets, and what their bits mean for the packed octets.

@@ -1,6 +1,6 @@
 //! Cells and the heads of chains, linked by index.
 ghost use Rattle.std.specs.Prelude.{◌≡◌, ◌<◌, length, replicate, vec_capacity, IfOk, None, Some};
-ghost use Rattle.cell_pool.specs.Links.{with_next, blank_head, fresh_cell, loose_cell};
+ghost use Rattle.cell_pool.specs.working.SoundLinks.{with_next, blank_head, fresh_cell, loose_cell};
 
 use crate::octets::Octets;
 use edge_io::NoMemory;

@@ -14,7 +14,6 @@
 #![tactic(auto)]
 
 mod cells;
-mod mask;
 mod octets;
 mod pool;
 mod trees;

@@ -1,10 +1,9 @@
 //! The octets of one cell, packed: 256 values, and one bit for each offset that has an octet.
-ghost use Rattle.std.specs.Prelude.{◌≡◌, ◌↔◌, ◌+◌, ◌≤◌, length, IsTrue, IsNone, None, Some, replicate, slice_index_or, slice_set};
+ghost use Rattle.std.specs.Prelude.{◌≡◌, ◌↔◌, ◌+◌, ◌≤◌, length, IsTrue, IsNone, None, Some, replicate, slice_index_or, slice_set, ◌-◌, ◌*◌, ◌<◌};
 ghost use Rattle.std.specs.List.{All};
-ghost use Rattle.cell_pool.specs.Lists.{without_below, with_run, IsBlank, IsCovered, StandsFrom};
-ghost use Rattle.cell_pool.specs.Packed.{HasBitsFrom};
+ghost use Rattle.cell_pool.specs.ChainLists.{without_below, with_run, IsBlank, IsCovered, StandsFrom};
+ghost use Rattle.cell_pool.specs.working.PackedOctets.{HasBitsFrom, HasOnesBetween, IsMask};
 
-use crate::mask::mask;
 use std::marker::Model;
 
 /// 256 offsets, each with an octet or nothing.
@@ -17,27 +16,16 @@ pub(crate) struct Octets {
 
 impl Model for Octets {
     ghost use Rattle.std.specs.Prelude.{ℕ, List, Option};
-    ghost use Rattle.cell_pool.specs.Packed.{octets_of};
+    ghost use Rattle.cell_pool.specs.working.PackedOctets.{octets_of};
 
     ghost Value = { List (Option ℕ) };
 
     ghost view = { λ o. octets_of o.values o.known };
 }
 
-// Clears the bits of `word` below `place`, which may be 64 or more.
-fn bits_from(word: u64, place: usize) -> u64
-    ensures { HasBitsFrom place word result }
-{
-    if place < 64 {
-        word & (u64::MAX << place)
-    } else {
-        0
-    }
-}
-
 impl Octets {
     /// Returns a value without octets.
-    #[tactic(auto, unfolding(crate::specs::Packed::octets_of))]
+    #[tactic(auto, unfolding(crate::specs::working::PackedOctets::octets_of))]
     pub(crate) fn empty() -> Octets
         ensures { result ≡ replicate 256 None }
     {
@@ -48,7 +36,7 @@ impl Octets {
     }
 
     /// Returns the octet at `at`, if there is one.
-    #[tactic(auto, unfolding(crate::specs::Packed::octets_of))]
+    #[tactic(auto, unfolding(crate::specs::working::PackedOctets::octets_of))]
     pub(crate) fn get(&self, at: u8) -> Option<u8>
         ensures value { result ≡ slice_index_or self.now at None }
         ensures size { length self.now ≡ 256 }
@@ -163,3 +151,125 @@ impl Octets {
         run.copy_from_slice(octets);
     }
 }
+
+// Clears the bits of `word` below `place`, which may be 64 or more.
+fn bits_from(word: u64, place: usize) -> u64
+    ensures { HasBitsFrom place word result }
+{
+    if place < 64 {
+        word & (u64::MAX << place)
+    } else {
+        0
+    }
+}
+
+// Returns four words with 1 at the bits of the offsets from `at` up to `end`.
+fn mask(at: usize, end: usize) -> [u64; 4]
+    requires order { at ≤ end }
+    requires end { end ≤ 256 }
+    ensures { IsMask at end result }
+{
+    [
+        ones_between(at, end, 0),
+        ones_between(at, end, 1),
+        ones_between(at, end, 2),
+        ones_between(at, end, 3),
+    ]
+}
+
+// Returns a word of the mask of the offsets from `at` up to `end`.
+fn ones_between(at: usize, end: usize, word: usize) -> u64
+    requires order { at ≤ end }
+    requires end { end ≤ 256 }
+    requires word { word < 4 }
+    ensures { HasOnesBetween (at - 64 * word) (end - 64 * word) result }
+{
+    ones_below(at, word) ^ ones_below(end, word)
+}
+
+// Returns a word of the mask of the offsets below `end`.
+fn ones_below(end: usize, word: usize) -> u64
+    requires end { end ≤ 256 }
+    requires word { word < 4 }
+    ensures { HasOnesBetween 0 (end - 64 * word) result }
+{
+    EDGES.as_flattened()[192 + end - 64 * word]
+}
+
+// The words of the fourth row have 1 at the bits below 0, 1, .. 63. Those before it have no ones,
+// those after it nothing else.
+static EDGES: [[u64; 64]; 8] = [
+    [0; 64],
+    [0; 64],
+    [0; 64],
+    [
+        0,
+        1,
+        3,
+        7,
+        0xf,
+        0x1f,
+        0x3f,
+        0x7f,
+        0xff,
+        0x1ff,
+        0x3ff,
+        0x7ff,
+        0xfff,
+        0x1fff,
+        0x3fff,
+        0x7fff,
+        0xffff,
+        0x1_ffff,
+        0x3_ffff,
+        0x7_ffff,
+        0xf_ffff,
+        0x1f_ffff,
+        0x3f_ffff,
+        0x7f_ffff,
+        0xff_ffff,
+        0x1ff_ffff,
+        0x3ff_ffff,
+        0x7ff_ffff,
+        0xfff_ffff,
+        0x1fff_ffff,
+        0x3fff_ffff,
+        0x7fff_ffff,
+        0xffff_ffff,
+        0x1_ffff_ffff,
+        0x3_ffff_ffff,
+        0x7_ffff_ffff,
+        0xf_ffff_ffff,
+        0x1f_ffff_ffff,
+        0x3f_ffff_ffff,
+        0x7f_ffff_ffff,
+        0xff_ffff_ffff,
+        0x1ff_ffff_ffff,
+        0x3ff_ffff_ffff,
+        0x7ff_ffff_ffff,
+        0xfff_ffff_ffff,
+        0x1fff_ffff_ffff,
+        0x3fff_ffff_ffff,
+        0x7fff_ffff_ffff,
+        0xffff_ffff_ffff,
+        0x1_ffff_ffff_ffff,
+        0x3_ffff_ffff_ffff,
+        0x7_ffff_ffff_ffff,
+        0xf_ffff_ffff_ffff,
+        0x1f_ffff_ffff_ffff,
+        0x3f_ffff_ffff_ffff,
+        0x7f_ffff_ffff_ffff,
+        0xff_ffff_ffff_ffff,
+        0x1ff_ffff_ffff_ffff,
+        0x3ff_ffff_ffff_ffff,
+        0x7ff_ffff_ffff_ffff,
+        0xfff_ffff_ffff_ffff,
+        0x1fff_ffff_ffff_ffff,
+        0x3fff_ffff_ffff_ffff,
+        0x7fff_ffff_ffff_ffff,
+    ],
+    [u64::MAX; 64],
+    [u64::MAX; 64],
+    [u64::MAX; 64],
+    [u64::MAX; 64],
+];

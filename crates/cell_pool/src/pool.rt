@@ -1,8 +1,8 @@
 //! A pool of cells, with its chains and its free list.
 ghost use Rattle.std.specs.Prelude.{◌≡◌, ◌+◌, ◌-◌, ◌<◌, ◌≤◌, ◌^◌, ◌↔◌, [], ◌∷◌, length, replicate, IfOk, IfSome, IfNone, IsNone, IsTrue, Some, None, slice_index_or, slice_set, vec_capacity};
 ghost use Rattle.std.specs.List.{All, sum_by};
-ghost use Rattle.cell_pool.specs.Lists.{chain_at, with_chain, empty_cell, without_below, with_run, first_id, IsBlank, IsCovered, StandsFrom, BeginsAbove, IsRising, HasPlaceFor, HasCellAfter, TakesAfter, GivesBackAfter, IsHeld, IsHeldWith, StandsUpTo, Wherever, Writes, StandsOnce};
-ghost use Rattle.cell_pool.specs.Links.{IsMade, IsReady};
+ghost use Rattle.cell_pool.specs.ChainLists.{chain_at, with_chain, empty_cell, without_below, with_run, first_id, IsBlank, IsCovered, StandsFrom, BeginsAbove, IsRising, HasPlaceFor, HasCellAfter, TakesAfter, GivesBackAfter, IsHeld, IsHeldWith, StandsUpTo, Wherever, Writes, StandsOnce};
+ghost use Rattle.cell_pool.specs.working.SoundLinks.{IsMade, IsReady};
 
 use crate::cells::{Cell, CellId, ChainId, Head, empty_heads, set_next};
 use crate::trees::Trees;
@@ -26,8 +26,9 @@ pub struct Pool {
 
 impl Model for Pool {
     ghost use Rattle.std.specs.Prelude.{vec_capacity};
-    ghost use Rattle.cell_pool.specs.Lists.{Lists};
-    ghost use Rattle.cell_pool.specs.Links.{lists_of, IsSound};
+    ghost use Rattle.cell_pool.specs.ChainLists.{Lists};
+    ghost use Rattle.cell_pool.specs.CellLinks.{lists_of};
+    ghost use Rattle.cell_pool.specs.working.SoundLinks.{IsSound};
 
     ghost Value = { Lists };
 

@@ -1,8 +1,8 @@
 -- The answer to an inbound segment without a live era.
 use Rattle.std.specs.Prelude.{◌≡◌, Bool, true, false, [], ◌∷◌}
 use Rattle.era_state.specs.declared.segment.Seg.{Seg}
-use Rattle.era_state.specs.Read.{came}
-use Rattle.era_state.specs.Standing.{OfferedFor}
+use Rattle.era_state.specs.SegmentFields.{came}
+use Rattle.era_state.specs.EraFields.{OfferedFor}
 use Rattle.cold_start.specs.declared.inbound.ColdAnswer.{ColdAnswer}
 use Rattle.cold_start.specs.declared.inbound.ColdAnswer.TheVariants.{Begin, Probe, Refuse}
 use Rattle.cold_start.specs.Rules.{cold_probe_of}

@@ -5,7 +5,7 @@ use Rattle.wire_base.specs.Tcp as tcp
 use Rattle.wire_base.specs.Segments.{Written}
 use Rattle.era_state.specs.declared.probe.Probe.{Probe}
 use Rattle.era_state.specs.Offsets.{number_before}
-use Rattle.era_state.specs.Marks.{acknowledges, is_inbound_syn}
+use Rattle.era_state.specs.SegmentMarks.{acknowledges, is_inbound_syn}
 
 -- T_COLD: an inbound segment has RST, or SYN with ACK
 abbrev pub t_cold : Written → Bool

@@ -1,7 +1,7 @@
 //! An inbound segment without a live era.
 ghost use Rattle.std.specs.Prelude.{◌≡◌, true};
 ghost use Rattle.wire_base.specs.Tcp as tcp;
-ghost use Rattle.era_state.specs.Read.{came};
+ghost use Rattle.era_state.specs.SegmentFields.{came};
 ghost use Rattle.cold_start.specs.Rules.{cold_probe_of, is_asked, is_call, t_cold};
 ghost use Rattle.cold_start.specs.Answers.{AnswersTo, is_begin, is_probe, is_refuse};
 

@@ -1,8 +1,8 @@
 //! An outbound segment without a live era.
 ghost use Rattle.std.specs.Prelude.{◌≡◌, ℕ, List, [], ◌∷◌, length, IfSome, is_some, true};
 ghost use Rattle.wire_base.specs.Tcp as tcp;
-ghost use Rattle.era_state.specs.Read.{sent};
-ghost use Rattle.era_state.specs.Standing.{WarmFor};
+ghost use Rattle.era_state.specs.SegmentFields.{sent};
+ghost use Rattle.era_state.specs.EraFields.{WarmFor};
 ghost use Rattle.cold_start.specs.Rules.{begins_warm};
 
 use era_state::{Seg, Warm};

@@ -3,14 +3,14 @@ use Rattle.std.proofs.Common.{◌≡◌, Bool, true, false, ◌&&◌, ◌==◌, 
 use Rattle.std.proofs.lemmas.Bool.{and_parts, and_right, eqb-true, ne_eqb, both_ways}
 use Rattle.rule_book.specs.declared.rule.Rule.{Rule}
 use Rattle.rule_book.specs.declared.rule.Rule.TheVariants as rules
-use Rattle.norm_settings.specs.Settings.{PlainSettings}
+use Rattle.norm_settings.specs.SettingValues.{PlainSettings}
 use Rattle.dgram_rules.specs.declared.judged.DgramJudged.{DgramJudged}
 use Rattle.dgram_rules.specs.declared.judged.DgramJudged.TheVariants.{Pass, Mend, Drop}
 use Rattle.rule_book.specs.Rules.{datagram_rows}
 use Rattle.ip_rules.specs.Datagrams.{Datagram, goes_in}
-use Rattle.dgram_rules.specs.Rows.{has_wrong_sum, u_short, u_len, u_sum, u_sum_out, m_short, m_sum, m_type, m_quote, holds_dgram, dgram_dropped_by}
-use Rattle.dgram_rules.specs.Judged.{dgram_judged, icmp_judged, udp_judged}
-use Rattle.dgram_rules.specs.Laws.{Tells, DatagramsTellTheRows, OthersHaveNoRow, OffloadKeepsWrongSums}
+use Rattle.dgram_rules.specs.RuleRows.{has_wrong_sum, u_short, u_len, u_sum, u_sum_out, m_short, m_sum, m_type, m_quote, holds_dgram, dgram_dropped_by}
+use Rattle.dgram_rules.specs.JudgedDatagram.{dgram_judged, icmp_judged, udp_judged}
+use Rattle.dgram_rules.specs.RuleLaws.{Tells, DatagramsTellTheRows, OthersHaveNoRow, OffloadKeepsWrongSums}
 
 -- the three results are those of their rules
 drop_tells : (rule : Rule) (mended : Bool) → Tells (Some rule) mended (Drop rule)

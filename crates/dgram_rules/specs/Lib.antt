@@ -1,3 +1,3 @@
-pub mod Rows
-pub mod Judged
-pub mod Laws
+pub mod RuleRows
+pub mod JudgedDatagram
+pub mod RuleLaws

@@ -1,5 +1,5 @@
 //! Laws of the rules on UDP and ICMP.
-ghost use Rattle.dgram_rules.specs.Laws.{DatagramsTellTheRows, OffloadKeepsWrongSums, OthersHaveNoRow};
+ghost use Rattle.dgram_rules.specs.RuleLaws.{DatagramsTellTheRows, OffloadKeepsWrongSums, OthersHaveNoRow};
 
 /// States that the result for a datagram is that of the first drop rule that holds, or else of the
 /// fix rule.

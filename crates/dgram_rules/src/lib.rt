@@ -8,7 +8,7 @@
 
 pub mod judged;
 pub mod laws;
-pub mod rows;
+pub mod message_rules;
 
 pub use judged::DgramJudged;
-pub use rows::{judge_icmp, judge_udp};
+pub use message_rules::{judge_icmp, judge_udp};

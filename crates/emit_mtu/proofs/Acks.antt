@@ -8,16 +8,16 @@ use Rattle.wire_base.specs.declared.address.Link.TheVariants.{Raw}
 use Rattle.wire_base.specs.Tcp as tcp
 use Rattle.wire_base.specs.Plain.{Plain}
 use Rattle.wire_base.specs.Segments.{Segment, fields_of, segment_of}
-use Rattle.receiver_model.specs.Agreement.{OctetAt, FinAt}
+use Rattle.receiver_model.specs.FamilyAgreement.{OctetAt, FinAt}
 use Rattle.receiver_model.proofs.Places.{EachAck, each_ack_append, each_ack_long, each_ack_at, IsNearAck, StaysNear}
 use Rattle.receiver_model.proofs.Members.{all_at}
 use Rattle.emit_mtu.specs.declared.long.LongKind.{LongKind}
 use Rattle.emit_mtu.specs.declared.long.LongKind.TheVariants.{Fits, Cut, Drop}
-use Rattle.emit_mtu.specs.Frames.{AreOctets, parts_of}
-use Rattle.emit_mtu.specs.Long.{long_kind}
+use Rattle.emit_mtu.specs.FrameParts.{AreOctets, parts_of}
+use Rattle.emit_mtu.specs.LongFrames.{long_kind}
 use Rattle.emit_mtu.specs.Segments as spec
-use Rattle.emit_mtu.specs.Laws.{IsToBeCut, piece_of}
-use Rattle.emit_mtu.specs.Streams.{CutStaysNearAcks, frames_for, frames_of, packets_for, places_for, places_of, acks_for}
+use Rattle.emit_mtu.specs.CutLaws.{IsToBeCut, piece_of}
+use Rattle.emit_mtu.specs.CutStreams.{CutStaysNearAcks, frames_for, frames_of, packets_for, places_for, places_of, acks_for}
 use Rattle.emit_mtu.proofs.Streams.{IsPart, ends_with, is_read, octet_of_part, room_in}
 use Rattle.emit_mtu.proofs.PlainPackets.{whole-plain}
 

@@ -4,17 +4,16 @@ use Rattle.std.proofs.Math.Seq.{take-length}
 use Rattle.std.proofs.lemmas.List.{drop-take, drop-drop, take_at, drop_at, length-append, length-take, take-append-drop, length-take-le}
 use Rattle.wire_base.specs.Ipv4 as ip
 use Rattle.wire_base.specs.Tcp as tcp
-use Rattle.wire_base.specs.Sums.{word_sum, checksum_for, is_right, sum_is_right}
-use Rattle.wire_base.proofs.Checksums.{word_sum-with_u16, checksum_for-below, is_right-checked}
+use Rattle.wire_base.specs.Checksums.{word_sum, checksum_for, is_right, sum_is_right}
+use Rattle.wire_base.proofs.Octets.{word_sum-with_u16, checksum_for-below, is_right-checked, two-octets, four-octets}
 use Rattle.wire_base.specs.declared.address.Link.{Link}
 use Rattle.wire_base.specs.Frames.{link_octets, packet_in}
 use Rattle.wire_base.specs.Segments.{fields_of}
-use Rattle.wire_base.proofs.Octets.{two-octets, four-octets}
-use Rattle.emit_mtu.specs.Frames.{Parts, AreSized, AreOctets, IsWhole, link_size, parts_of}
+use Rattle.emit_mtu.specs.FrameParts.{Parts, AreOctets, IsWhole, link_size, parts_of}
+use Rattle.emit_mtu.specs.working.PartSizes.{AreSized}
 use Rattle.emit_mtu.specs.Segments as spec
-use Rattle.emit_mtu.specs.Laws.{piece_of, room_for}
-use Rattle.emit_mtu.proofs.Links.{packet_behind, link_behind}
-use Rattle.emit_mtu.proofs.Frames.{are_sized, is_faultless, payload_is}
+use Rattle.emit_mtu.specs.CutLaws.{piece_of, room_for}
+use Rattle.emit_mtu.proofs.Frames.{packet_behind, link_behind, are_sized, is_faultless, payload_is}
 
 -- Lists that begin with twenty numbers, as the headers of IPv4 and TCP do.
 

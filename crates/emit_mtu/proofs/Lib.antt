@@ -1,8 +1,6 @@
-pub mod Links
-pub mod Headers
 pub mod Frames
+pub mod Headers
 pub mod Segments
-pub mod Flags
 pub mod PlainPackets
 pub mod Streams
 pub mod Acks

@@ -12,28 +12,26 @@ use Rattle.wire_base.specs.declared.address.Link.{Link}
 use Rattle.wire_base.specs.Frames.{kind_of, link_octets, packet_in}
 use Rattle.wire_base.specs.Ipv4 as ip
 use Rattle.wire_base.specs.Tcp as tcp
-use Rattle.wire_base.specs.Sums.{sum_is_right}
+use Rattle.wire_base.specs.Checksums.{sum_is_right}
 use Rattle.wire_base.specs.Plain.{Plain, pseudo_of}
 use Rattle.wire_base.specs.Segments.{fields_of}
 use Rattle.wire_base.specs.declared.frame.FrameKind.TheVariants.{Ip}
 use Rattle.wire_base.specs.Options.{are_well_formed}
 use Rattle.tcp_codec.specs.declared.header.SumRule.TheVariants.{Skip}
-use Rattle.tcp_codec.specs.Header.{fault_of}
+use Rattle.tcp_codec.specs.HeaderFields.{fault_of}
 use Rattle.tcp_codec.proofs.Segments.{fault_of-options}
-use Rattle.emit_mtu.specs.Frames.{Parts, link_size, parts_of, IsSent, IsWhole}
-use Rattle.emit_mtu.specs.Long.{is_ip, is_long, is_marked, long_kind, may_be_cut}
+use Rattle.emit_mtu.specs.FrameParts.{Parts, link_size, parts_of, IsSent, IsWhole}
+use Rattle.emit_mtu.specs.LongFrames.{is_ip, is_long, is_marked, long_kind, may_be_cut}
 use Rattle.emit_mtu.specs.Segments.{count_of, piece_of, room_of, segment_of, segments, segments_from}
-use Rattle.emit_mtu.specs.Laws.{AreFew, ArePlain, AreReadAsPieces, CarryThePayload, IsToBeCut, NoneIsLong, payload_in, AreSent}
-use Rattle.emit_mtu.specs.Laws as laws
+use Rattle.emit_mtu.specs.CutLaws.{AreFew, ArePlain, AreReadAsPieces, CarryThePayload, IsToBeCut, NoneIsLong, payload_in, AreSent}
+use Rattle.emit_mtu.specs.CutLaws as laws
 use Rattle.emit_mtu.specs.declared.long.LongKind.{LongKind}
 use Rattle.emit_mtu.specs.declared.long.LongKind.TheVariants.{Fits, Cut, Drop}
 use Rattle.emit_mtu.specs.Segments as spec
-use Rattle.emit_mtu.specs.Streams.{NothingLongGoesOut, frames_of}
-use Rattle.emit_mtu.proofs.Links.{kind_behind, packet_size}
-use Rattle.emit_mtu.proofs.Frames.{IsCut, carried, is_cut, is_faultless, payload_is, version_is}
+use Rattle.emit_mtu.specs.CutStreams.{NothingLongGoesOut, frames_of}
+use Rattle.emit_mtu.proofs.Frames.{kind_behind, packet_size, IsCut, carried, is_cut, is_faultless, payload_is, version_is}
 use Rattle.emit_mtu.proofs.Headers.{fields_of-packet_of, room_is, behind-own, header-front, identification-front, identification-own, length-piece_of, AreJoined, are_joined, is_own, link_octets-segment_of, packet_in-segment_of, packet_of, behind-front, flags-own, numbers-front, segment-own, length-message_of}
-use Rattle.emit_mtu.proofs.PlainPackets.{header_sum, plain_packet, segment_sum, whole_by}
-use Rattle.emit_mtu.proofs.Flags.{is_unmarked, legal_pieces}
+use Rattle.emit_mtu.proofs.PlainPackets.{header_sum, plain_packet, segment_sum, whole_by, is_unmarked, legal_pieces}
 
 -- The facts of each segment of a frame.
 

@@ -10,21 +10,20 @@ use Rattle.wire_base.specs.Tcp as tcp
 use Rattle.wire_base.specs.Plain.{Plain}
 use Rattle.wire_base.specs.Segments.{fields_of, segment_of, Segment}
 use Rattle.receiver_model.specs.Offsets.{IsPlace}
-use Rattle.receiver_model.specs.Agreement.{ArePlaces, FinAt, HasSynBefore, OctetAt, TellOneStream}
+use Rattle.receiver_model.specs.FamilyAgreement.{ArePlaces, FinAt, HasSynBefore, OctetAt, TellOneStream}
 use Rattle.receiver_model.proofs.Places.{Each, each_at, each_long, each_append}
 use Rattle.receiver_model.proofs.Members.{all_at}
 use Rattle.receiver_model.proofs.Streams.{segment_is}
-use Rattle.emit_mtu.specs.Frames.{parts_of, AreOctets}
+use Rattle.emit_mtu.specs.FrameParts.{parts_of, AreOctets}
 use Rattle.emit_mtu.specs.Segments as spec
-use Rattle.emit_mtu.specs.Laws.{IsToBeCut, piece_of}
+use Rattle.emit_mtu.specs.CutLaws.{IsToBeCut, piece_of}
 use Rattle.emit_mtu.specs.declared.long.LongKind.{LongKind}
 use Rattle.emit_mtu.specs.declared.long.LongKind.TheVariants.{Fits, Cut, Drop}
-use Rattle.emit_mtu.specs.Long.{long_kind}
-use Rattle.emit_mtu.specs.Streams.{CutIsOfStream, CutTellsOneStream, frames_for, frames_of, packets_for, places_for, places_of}
+use Rattle.emit_mtu.specs.LongFrames.{long_kind}
+use Rattle.emit_mtu.specs.CutStreams.{CutIsOfStream, CutTellsOneStream, frames_for, frames_of, packets_for, places_for, places_of}
 use Rattle.emit_mtu.proofs.Segments.{past, cutting}
 use Rattle.emit_mtu.proofs.Headers.{fields_of-packet_of, header-front, length-piece_of, is_own, packet_of}
-use Rattle.emit_mtu.proofs.Flags.{flags_are_kept, is_unmarked}
-use Rattle.emit_mtu.proofs.PlainPackets.{plain_packet, whole-plain}
+use Rattle.emit_mtu.proofs.PlainPackets.{flags_are_kept, is_unmarked, plain_packet, whole-plain}
 
 -- The content of the packets that are written instead of others.
 

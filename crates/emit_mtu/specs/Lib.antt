@@ -1,5 +1,6 @@
-pub mod Frames
-pub mod Long
+pub mod FrameParts
+pub mod LongFrames
 pub mod Segments
-pub mod Laws
-pub mod Streams
+pub mod CutLaws
+pub mod CutStreams
+pub mod working

@@ -1,15 +1,15 @@
 -- The segments that a TCP frame is cut into (this project's profile, over RFC 791 section 3.1 and
 -- RFC 9293 section 3.1). Segments are counted from 0; each except the last has `room` octets of
 -- payload.
-use Rattle.std.specs.Prelude.{ℕ, ◌+◌, ◌-◌, ◌*◌, ◌/◌, ◌%◌, ◌^◌, ◌==◌, ◌&&◌, ◌<◌, ◌≤◌, nat_le, min, not, Bool, List, ◌++◌, length, map, take, drop, slice_set, if◌then◌else◌}
+use Rattle.std.specs.Prelude.{ℕ, ◌+◌, ◌-◌, ◌*◌, ◌/◌, ◌%◌, ◌^◌, ◌==◌, ◌&&◌, nat_le, min, not, Bool, List, ◌++◌, length, map, take, drop, slice_set, if◌then◌else◌}
 use Rattle.std.specs.List.{range_with_len}
 use Rattle.wire_base.specs.declared.address.Link.{Link}
 use Rattle.wire_base.specs.Numbers.{with_u16, with_u32}
-use Rattle.wire_base.specs.Sums.{word_sum, checksum_for, pseudo_sum}
+use Rattle.wire_base.specs.Checksums.{word_sum, checksum_for, pseudo_sum}
 use Rattle.wire_base.specs.Ipv4 as ip
 use Rattle.wire_base.specs.Tcp as tcp
-use Rattle.tcp_codec.specs.Mending.{mended}
-use Rattle.emit_mtu.specs.Frames.{AreSized, Parts, parts_of}
+use Rattle.tcp_codec.specs.MendedSegment.{mended}
+use Rattle.emit_mtu.specs.FrameParts.{Parts, parts_of}
 
 -- the number of octets that the headers leave of the MTU
 abbrev pub room_of : (mtu : ℕ) → Parts → ℕ
@@ -73,9 +73,3 @@ segments_from first room parts = map (segment_of room parts) (range_with_len fir
 -- the frames of all parts, in order
 abbrev pub segments : Link → (mtu : ℕ) → (frame : List ℕ) → List (List ℕ)
 segments link mtu frame = let parts = parts_of link frame in segments_from 0 (room_of mtu parts) parts
-
--- a frame of these sizes is being cut, and `index` segments are written
-pub record IsCutting (index room : ℕ) (parts : Parts) : Type 0 where
-  pub sized : AreSized parts
-  pub some : 0 < room
-  pub reached : index ≤ count_of room parts

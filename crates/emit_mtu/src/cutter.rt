@@ -1,8 +1,8 @@
 //! Cutting of a frame, segment by segment.
 ghost use Rattle.std.specs.Prelude.{◌≡◌, ◌≤◌, [], ◌∷◌, length, take, drop, IfSome, IfNone};
 ghost use Rattle.emit_mtu.specs.declared.long.LongKind.TheVariants as kinds;
-ghost use Rattle.emit_mtu.specs.Frames.{IsSent};
-ghost use Rattle.emit_mtu.specs.Long.{long_kind};
+ghost use Rattle.emit_mtu.specs.FrameParts.{IsSent};
+ghost use Rattle.emit_mtu.specs.LongFrames.{long_kind};
 ghost use Rattle.emit_mtu.specs.Segments.{segments};
 ghost use Rattle.wire_base.specs.declared.limits.TheConstants.{MAX_FRAME};
 
@@ -24,7 +24,8 @@ pub struct Cutter<'a> {
 
 impl<'a> Model for Cutter<'a> {
     ghost use Rattle.std.specs.Prelude.{ℕ, List};
-    ghost use Rattle.emit_mtu.specs.Segments.{IsCutting, segments_from};
+    ghost use Rattle.emit_mtu.specs.working.CutterState.{IsCutting};
+    ghost use Rattle.emit_mtu.specs.Segments.{segments_from};
 
     ghost Value = { List (List ℕ) };
 

@@ -1,6 +1,6 @@
 //! Laws over the definitions alone.
-ghost use Rattle.emit_mtu.specs.Laws.{AreFew, ArePlain, AreReadAsPieces, AreSent, CarryThePayload, FlagsAreKept, NoneIsLong};
-ghost use Rattle.emit_mtu.specs.Streams.{CutIsOfStream, CutStaysNearAcks, CutTellsOneStream, NothingLongGoesOut, PacketsGoOutAlike, PlainHeadersAreWhole, PlainIsSent};
+ghost use Rattle.emit_mtu.specs.CutLaws.{AreFew, ArePlain, AreReadAsPieces, AreSent, CarryThePayload, FlagsAreKept, NoneIsLong};
+ghost use Rattle.emit_mtu.specs.CutStreams.{CutIsOfStream, CutStaysNearAcks, CutTellsOneStream, NothingLongGoesOut, PacketsGoOutAlike, PlainHeadersAreWhole, PlainIsSent};
 
 /// States that the packets of the segments of a frame have at most MTU octets, that there are at
 /// most 132 segments, and that no frame that is written is long.

@@ -1,7 +1,7 @@
 //! The decision on long frames.
 ghost use Rattle.std.specs.Prelude.{◌≡◌};
-ghost use Rattle.emit_mtu.specs.Frames.{IsSent, IsWhole};
-ghost use Rattle.emit_mtu.specs.Long as spec;
+ghost use Rattle.emit_mtu.specs.FrameParts.{IsSent, IsWhole};
+ghost use Rattle.emit_mtu.specs.LongFrames as spec;
 
 use crate::parts::{HEADER, header_length};
 use wire_base::{Flags, FrameKind, Link, frame_kind, packet_in, protocol, u16_at};

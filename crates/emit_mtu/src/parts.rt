@@ -3,7 +3,8 @@ ghost use Rattle.std.specs.Prelude.{◌≡◌, ◌≤◌, length};
 ghost use Rattle.wire_base.specs.Ipv4 as ip;
 ghost use Rattle.wire_base.specs.Tcp as tcp;
 ghost use Rattle.wire_base.specs.Frames.{link_octets, packet_in};
-ghost use Rattle.emit_mtu.specs.Frames.{AreSized, IsWhole, parts_of};
+ghost use Rattle.emit_mtu.specs.working.PartSizes.{AreSized};
+ghost use Rattle.emit_mtu.specs.FrameParts.{IsWhole, parts_of};
 
 use std::marker::Model;
 use wire_base::{Link, link_octets, packet_in};
@@ -21,7 +22,7 @@ pub(crate) struct Parts<'a> {
 }
 
 impl<'a> Model for Parts<'a> {
-    ghost use Rattle.emit_mtu.specs.Frames.{Parts as Octets};
+    ghost use Rattle.emit_mtu.specs.FrameParts.{Parts as Octets};
 
     ghost Value = { Octets };
 

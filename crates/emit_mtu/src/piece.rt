@@ -1,7 +1,7 @@
 //! One segment of a frame that is cut. It has the part of the payload with the number `index`,
 //! counted from 0; each part except the last has `room` octets.
 ghost use Rattle.std.specs.Prelude.{◌≡◌, ◌+◌, ◌*◌, ◌≤◌, ◌<◌, ◌++◌, length, drop};
-ghost use Rattle.emit_mtu.specs.Frames.{AreSized};
+ghost use Rattle.emit_mtu.specs.working.PartSizes.{AreSized};
 ghost use Rattle.emit_mtu.specs.Segments as spec;
 ghost use Rattle.wire_base.specs.declared.limits.TheConstants.{MAX_FRAME, MAX_PACKET};
 

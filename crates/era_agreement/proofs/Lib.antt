@@ -1,4 +1,3 @@
 pub mod Streams
 pub mod Acks
-pub mod Monitors
 pub mod TwoEras

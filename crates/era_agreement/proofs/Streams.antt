@@ -8,17 +8,17 @@ use Rattle.wire_base.specs.Segments.{Segment, Written, written_of, segment_of}
 use Rattle.era_state.specs.Offsets.{off, OffsetsAreRead}
 use Rattle.era_state.specs.Quantities.{acked, first, end_of, base_of}
 use Rattle.era_state.specs.Emission.{IsOutward, IsEmitted, AreEmitted, IsBare, IsKeptFrame}
-use Rattle.era_state.specs.Emitted.{WrittenRemains, InwardsAcknowledgeNothing, EmittedJoins, EmittedIsTold, HasNoOtherBase, EmittedOctetsArePlaces, OctetsArePlaces}
+use Rattle.era_state.specs.EmissionLaws.{WrittenRemains, InwardsAcknowledgeNothing, EmittedJoins, EmittedIsTold, HasNoOtherBase, EmittedOctetsArePlaces, OctetsArePlaces}
 use Rattle.receiver_model.specs.Offsets.{IsPlace}
-use Rattle.receiver_model.specs.Agreement.{OctetAt, FinAt, HasSynBefore, TellOneStream, MembersAgree}
+use Rattle.receiver_model.specs.FamilyAgreement.{OctetAt, FinAt, HasSynBefore, TellOneStream, MembersAgree}
 use Rattle.receiver_model.specs.Monitors.{MonitorsMissNothing}
-use Rattle.receiver_model.specs.Parts.{MembersReadParts}
+use Rattle.receiver_model.specs.StreamParts.{MembersReadParts}
 use Rattle.receiver_model.proofs.Places.{Each, each_append, each_map, each_at, each_long}
 use Rattle.wire_base.specs.Plain.{Plain}
 use Rattle.era_state.proofs.SameNumbers.{pushed}
-use Rattle.era_agreement.specs.Sent.{Sent, is_era, inward_packets, aside_packets, written_as, segments_in, written_in, placed_at, place_of, inward_places, inward_acks}
+use Rattle.era_agreement.specs.SentPackets.{Sent, is_era, inward_packets, aside_packets, written_as, segments_in, written_in, placed_at, place_of, inward_places, inward_acks}
 use Rattle.era_agreement.specs.Agreement.{IsSilentPacket, EraIsSound}
-use Rattle.era_agreement.specs.Laws.{EmittedTellsOneStream, EmittedIsSilent, EmittedAgrees, EmittedStaysNearAcks, EmittedMissesNothing, EmittedIsOfOneStream, EmittedReadsOneStream}
+use Rattle.era_agreement.specs.AgreementLaws.{EmittedTellsOneStream, EmittedIsSilent, EmittedAgrees, EmittedStaysNearAcks, EmittedMissesNothing, EmittedIsOfOneStream, EmittedReadsOneStream}
 
 -- What is known of an inward segment and its place, whatever is written later.
 

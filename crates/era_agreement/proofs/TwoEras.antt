@@ -9,16 +9,16 @@ use Rattle.wire_base.specs.Segments.{Segment, Written, segment_of}
 use Rattle.wire_base.specs.Tcp as tcp
 use Rattle.era_state.specs.Offsets.{OffsetsAreRead}
 use Rattle.era_state.specs.Quantities.{acked, base_of, edge, end_of, first, top}
-use Rattle.era_state.specs.Emitted.{EmittedOctetsArePlaces}
+use Rattle.era_state.specs.EmissionLaws.{EmittedOctetsArePlaces}
 use Rattle.era_state.proofs.Frames.{EndLies}
 use Rattle.era_state.proofs.EmittedSegments.{bounded}
 use Rattle.receiver_model.specs.Offsets.{IsPlace}
-use Rattle.receiver_model.specs.Agreement.{ArePlaces, FinAt, HasSynBefore, MembersAgree, OctetAt, TellOneStream}
+use Rattle.receiver_model.specs.FamilyAgreement.{ArePlaces, FinAt, HasSynBefore, MembersAgree, OctetAt, TellOneStream}
 use Rattle.receiver_model.specs.Monitors.{MonitorsMissNothing}
-use Rattle.receiver_model.specs.Parts.{AreOfStream, MembersReadParts, ReadsPart}
-use Rattle.era_agreement.specs.Sent.{Sent, inward_packets, inward_places, written_in}
+use Rattle.receiver_model.specs.StreamParts.{AreOfStream, MembersReadParts, ReadsPart}
+use Rattle.era_agreement.specs.SentPackets.{Sent, inward_packets, inward_places, written_in}
 use Rattle.era_agreement.specs.Agreement.{read_to}
-use Rattle.era_agreement.specs.Laws.{EmittedIsOfOneStream, EmittedTellsOneStream, IsEmittedEra}
+use Rattle.era_agreement.specs.AgreementLaws.{EmittedIsOfOneStream, EmittedTellsOneStream, IsEmittedEra}
 use Rattle.era_agreement.specs.TwoEras.{EmittedErasAreReadAsOne, EmittedIsNotReadAgain, EmittedIsReadToAcked, GoesOn, GoesOnPast, HasNoSyn, end_of_both, octet_of_both, packets_of_both, places_of_both, shifted}
 
 -- Elements of joined lists.

@@ -3,12 +3,12 @@ use Rattle.std.specs.Prelude.{◌≡◌, ◌⊎◌, ℕ, ◌+◌, ◌≤◌, Boo
 use Rattle.wire_base.specs.Segments.{Segment, segment_of}
 use Rattle.wire_base.specs.Tcp as tcp
 use Rattle.receiver_model.specs.declared.member.Member.{Member}
-use Rattle.receiver_model.specs.Agreement.{EraAgrees, IsMember}
+use Rattle.receiver_model.specs.FamilyAgreement.{EraAgrees, IsMember}
 use Rattle.receiver_model.specs.Delivery.{DeliversInTime}
 use Rattle.receiver_model.specs.Monitors as monitors
-use Rattle.receiver_model.specs.Parts.{EachReadsPart}
+use Rattle.receiver_model.specs.StreamParts.{EachReadsPart}
 use Rattle.era_state.specs.Quantities.{acked, base_of, end_of, first}
-use Rattle.era_agreement.specs.Sent.{Sent, inward_packets, written_in, inward_places}
+use Rattle.era_agreement.specs.SentPackets.{Sent, inward_packets, written_in, inward_places}
 
 -- the packet has no octet, no SYN and no FIN for a stream
 abbrev pub IsSilentPacket : List ℕ → Type 0

@@ -1,4 +1,4 @@
-pub mod Sent
+pub mod SentPackets
 pub mod Agreement
-pub mod Laws
+pub mod AgreementLaws
 pub mod TwoEras

@@ -7,15 +7,15 @@ use Rattle.std.specs.Option.{option_or}
 use Rattle.wire_base.specs.Segments.{Segment, Written, segment_of}
 use Rattle.wire_base.specs.Tcp as tcp
 use Rattle.receiver_model.specs.declared.member.Member.{Member}
-use Rattle.receiver_model.specs.Agreement.{EraAgrees, IsMember, OctetAt}
+use Rattle.receiver_model.specs.FamilyAgreement.{EraAgrees, IsMember, OctetAt}
 use Rattle.receiver_model.specs.Delivery.{DeliversInTime}
 use Rattle.receiver_model.specs.Monitors.{MissesNothingInTime}
-use Rattle.receiver_model.specs.Parts.{EachReadsPart}
+use Rattle.receiver_model.specs.StreamParts.{EachReadsPart}
 use Rattle.era_state.specs.Offsets.{off}
 use Rattle.era_state.specs.Quantities.{acked, base_of, end_of, first, top}
-use Rattle.era_agreement.specs.Sent.{Sent, inward_packets, inward_places, written_in}
+use Rattle.era_agreement.specs.SentPackets.{Sent, inward_packets, inward_places, written_in}
 use Rattle.era_agreement.specs.Agreement.{read_to}
-use Rattle.era_agreement.specs.Laws.{IsEmittedEra}
+use Rattle.era_agreement.specs.AgreementLaws.{IsEmittedEra}
 
 -- all octets that were written inwards are acknowledged, and so is the FIN, if there is one
 pub record IsAcknowledged (base : ℕ) (ws : List Written) : Type 0 where

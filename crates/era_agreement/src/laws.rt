@@ -1,5 +1,5 @@
 //! Laws of what was sent in eras.
-ghost use Rattle.era_agreement.specs.Laws.{AcknowledgmentsAreBehind, EmittedAgrees, EmittedIsOfOneStream, EmittedIsSilent, EmittedMissesNothing, EmittedReadsOneStream, EmittedStaysNearAcks, EmittedTellsOneStream};
+ghost use Rattle.era_agreement.specs.AgreementLaws.{AcknowledgmentsAreBehind, EmittedAgrees, EmittedIsOfOneStream, EmittedIsSilent, EmittedMissesNothing, EmittedReadsOneStream, EmittedStaysNearAcks, EmittedTellsOneStream};
 ghost use Rattle.era_agreement.specs.TwoEras.{EmittedErasAreReadAsOne, EmittedIsNotReadAgain, EmittedIsReadToAcked};
 
 use era_state::laws::{

@@ -10,12 +10,12 @@ use Rattle.std.proofs.lemmas.Option.{slice_get_within, slice_get_past}
 use Rattle.wire_base.specs.Tcp as tcp
 use Rattle.wire_base.specs.Segments.{Written}
 use Rattle.era_state.specs.Offsets.{off, natural, nat_of, number_in}
-use Rattle.era_state.specs.Marks.{has_octets, get_at, ack_of, edge_place, octet_at}
+use Rattle.era_state.specs.SegmentMarks.{has_octets, get_at, ack_of, edge_place, octet_at}
 use Rattle.era_state.specs.Quantities.{acked, edge, top, first, end_of, shift, shift_with, out_seen, in_seen, in_scaled, out_scaled, out_scale, base_of}
-use Rattle.era_state.specs.Keeping.{bounds}
+use Rattle.era_state.specs.ForwardedOctets.{bounds}
 use Rattle.era_state.specs.Emission.{IsOutward, IsBare, IsKeptFrame, IsEmitted, AreEmitted}
-use Rattle.era_state.specs.declared.interval.Interval.{Interval}
-use Rattle.era_state.specs.Emitted.{EmittedJoins, HasNoOtherBase, IsTold, EmittedIsTold, EmittedOctetsArePlaces, UnbasedHasNoOctet, IsNearAcked, EmittedIsNear}
+use Rattle.era_state.specs.declared.offset.Interval.{Interval}
+use Rattle.era_state.specs.EmissionLaws.{EmittedJoins, HasNoOtherBase, IsTold, EmittedIsTold, EmittedOctetsArePlaces, UnbasedHasNoOctet, IsNearAcked, EmittedIsNear}
 use Rattle.era_state.proofs.Quantities.{or_none, acked_push, edge_push, top_push, octet_push, end_push, first_past}
 use Rattle.era_state.proofs.SameNumbers.{no_octet, no_top, no_end, acked_same, edge_same, pushed, written_remains}
 use Rattle.era_state.proofs.Offsets.{scaled_small, Lies}

@@ -11,13 +11,15 @@ use Rattle.era_state.specs.declared.syns.Syns.{Syns}
 use Rattle.era_state.specs.declared.called.Called.{Called}
 use Rattle.era_state.specs.declared.offered.Offered.{Offered}
 use Rattle.era_state.specs.Offsets.{number_in, off, natural, turn_past, whole}
-use Rattle.era_state.specs.Marks.{fixes, number_behind, ack_of, edge_place, top_place, fin_place, iss_after}
+use Rattle.era_state.specs.SegmentMarks.{fixes, number_behind, ack_of, edge_place, top_place, fin_place}
+use Rattle.era_state.specs.working.FirstSyns.{iss_after}
 use Rattle.era_state.specs.Quantities.{base_of, acked, iss, out, out_fin, shift, Untouched, edge, top, first, end_of, is_opened, octet_count}
-use Rattle.era_state.specs.Read.{sent, came}
-use Rattle.era_state.specs.Scales.{SynsFor, SynsAfter}
-use Rattle.era_state.specs.Standing.{CalledFor, OfferedFor, WarmFor}
+use Rattle.era_state.specs.SegmentFields.{sent, came}
+use Rattle.era_state.specs.WindowScales.{SynsFor}
+use Rattle.era_state.specs.working.ScaleChanges.{SynsAfter}
+use Rattle.era_state.specs.EraFields.{CalledFor, OfferedFor, WarmFor}
 use Rattle.era_state.specs.declared.warm.Warm.{Warm}
-use Rattle.era_state.specs.Changes.{WarmAfter, WarmOpens, WarmCalled}
+use Rattle.era_state.specs.working.WarmChanges.{WarmAfter, WarmOpens, WarmCalled}
 use Rattle.era_state.proofs.Quantities.{or_none, or_kept, base_push, iss_push, out_push, out_fin_push, acked_push, opened_push, edge_push, top_push, end_push, syns_push, octet_push, shift_same, count_same, count_none}
 use Rattle.era_state.proofs.SameNumbers.{no_end, no_octet}
 

@@ -8,19 +8,19 @@ use Rattle.std.proofs.lemmas.Option.{slice_get_past, slice_get-get_or}
 use Rattle.std.specs.List.{count_by, range_with_len}
 use Rattle.wire_base.specs.Tcp as tcp
 use Rattle.wire_base.specs.Segments.{Written}
-use Rattle.era_state.specs.declared.interval.Interval.{Interval}
+use Rattle.era_state.specs.declared.offset.Interval.{Interval}
 use Rattle.era_state.specs.Offsets.{off, nat_of, whole, number_in, natural}
-use Rattle.era_state.specs.Marks.{has_octets, top_place, fin_place, get_at, octet_at}
+use Rattle.era_state.specs.SegmentMarks.{has_octets, top_place, fin_place, get_at, octet_at}
 use Rattle.era_state.specs.Quantities.{base_at, acked, is_opened, edge, top, end_of, octet_count, first, fresh_places}
-use Rattle.era_state.specs.Keeping.{Bounds, bounds, frame_sequence, bounds_of, offset_of, top_after, end_after}
-use Rattle.era_state.specs.Intervals.{Spans, KeptOf}
-use Rattle.era_state.specs.Frames.{IsFrame}
+use Rattle.era_state.specs.ForwardedOctets.{Bounds, bounds, frame_sequence, bounds_of, offset_of, top_after, end_after}
+use Rattle.era_state.specs.KeptIntervals.{Spans, KeptOf}
+use Rattle.era_state.specs.WrittenFrames.{IsFrame}
 use Rattle.era_state.specs.declared.warm.Warm.{Warm}
-use Rattle.era_state.specs.Scales.{SynsFor}
-use Rattle.era_state.specs.Silence.{SameNumbers}
-use Rattle.era_state.specs.Standing.{WarmFor, bounds_in}
-use Rattle.era_state.specs.Changes.{WarmWith}
-use Rattle.era_state.specs.Laws.{KeptOctetsAreNear, FinStandsAtEnd, FirstStays, FrameOctets}
+use Rattle.era_state.specs.WindowScales.{SynsFor}
+use Rattle.era_state.specs.SilentSegments.{SameNumbers}
+use Rattle.era_state.specs.EraFields.{WarmFor, bounds_in}
+use Rattle.era_state.specs.FrameChanges.{WarmWith}
+use Rattle.era_state.specs.QuantityLaws.{KeptOctetsAreNear, FinStandsAtEnd, FirstStays, FrameOctets}
 use Rattle.era_state.proofs.Offsets.{off_is, places_are_read, Lies, lies}
 use Rattle.era_state.proofs.SameNumbers.{no_top, same_numbers, no_end, no_octet, if_same}
 use Rattle.era_state.proofs.Quantities.{top_push, end_push, syns_kept, octet_push, count_same, count_push, or_none}

@@ -8,13 +8,13 @@ use Rattle.std.proofs.Math.Pow.{pow_mono}
 use Rattle.std.proofs.lemmas.Bool.{and_parts}
 use Rattle.wire_base.specs.Tcp as tcp
 use Rattle.era_state.specs.Offsets.{off, turn_past, IsOff, OffsetsAreRead, PlacesAreRead, number_in, nat_of, whole}
-use Rattle.era_state.specs.declared.interval.Interval.{Interval}
-use Rattle.era_state.specs.Keeping.{Bounds, bounds_of, offset_of, up_to_end, is_kept_fin, top_after, end_after}
-use Rattle.era_state.specs.Intervals.{Spans}
-use Rattle.era_state.specs.Laws.{IntervalsFit}
+use Rattle.era_state.specs.declared.offset.Interval.{Interval}
+use Rattle.era_state.specs.ForwardedOctets.{Bounds, bounds_of, offset_of, up_to_end, is_kept_fin, top_after, end_after}
+use Rattle.era_state.specs.KeptIntervals.{Spans}
+use Rattle.era_state.specs.QuantityLaws.{IntervalsFit}
 use Rattle.era_state.specs.declared.warm.Warm.{Warm}
-use Rattle.era_state.specs.Standing.{bounds_in}
-use Rattle.era_state.specs.Frames.{IsGiven}
+use Rattle.era_state.specs.EraFields.{bounds_in}
+use Rattle.era_state.specs.WrittenFrames.{IsGiven}
 
 -- Offsets are read as whole numbers.
 

@@ -14,14 +14,15 @@ use Rattle.std.proofs.lemmas.Option.{slice_get_past}
 use Rattle.std.proofs.lemmas.Bool.{and_right}
 use Rattle.wire_base.specs.Segments.{Written}
 use Rattle.wire_base.specs.Tcp as tcp
-use Rattle.era_state.specs.Words.{first_of, last_of, greatest, Moment, moments_from, moments}
+use Rattle.era_state.specs.ListElements.{first_of, last_of, greatest, Moment, moments_from, moments}
 use Rattle.era_state.specs.Offsets.{number_in, off, natural, nat_of}
-use Rattle.era_state.specs.Marks.{is_outbound_syn, is_inbound_syn, is_outbound_fin, number_behind, fixes, ack_of, edge_place, top_place, octet_at, fin_place, get_at}
+use Rattle.era_state.specs.SegmentMarks.{is_outbound_syn, is_inbound_syn, is_outbound_fin, number_behind, fixes, ack_of, edge_place, top_place, octet_at, fin_place, get_at}
 use Rattle.era_state.specs.Quantities.{base_of, acked, is_opened, out_seen, in_seen, in_scaled, out_scaled, out_scale, shift, edge, top, first, end_of, iss, out, out_fin, shift_with, octet_count, fresh_places}
 use Rattle.era_state.specs.declared.syns.Syns.{Syns}
-use Rattle.era_state.specs.Scales.{SynsFor, SynsAfter, shift_of}
-use Rattle.era_state.specs.Silence.{SameNumbers}
-use Rattle.era_state.specs.Laws.{AckedIsGreatest, ShiftIsOfTheMoment, OctetsAreBelowTop}
+use Rattle.era_state.specs.WindowScales.{SynsFor}
+use Rattle.era_state.specs.working.ScaleChanges.{SynsAfter, shift_of}
+use Rattle.era_state.specs.SilentSegments.{SameNumbers}
+use Rattle.era_state.specs.QuantityLaws.{AckedIsGreatest, ShiftIsOfTheMoment, OctetsAreBelowTop}
 
 -- What one more element adds to the functions over a list.
 

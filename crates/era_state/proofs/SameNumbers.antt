@@ -7,17 +7,17 @@ use Rattle.std.proofs.Math.Nat.{max-zero}
 use Rattle.wire_base.specs.Tcp as tcp
 use Rattle.wire_base.specs.Segments.{Written}
 use Rattle.era_state.specs.Offsets.{off, natural, nat_of, number_in}
-use Rattle.era_state.specs.Marks.{has_octets, number_behind, ack_of, edge_place, top_place, octet_at, get_at, fin_place, fixes, is_outbound_syn, is_inbound_syn}
+use Rattle.era_state.specs.SegmentMarks.{has_octets, number_behind, ack_of, edge_place, top_place, octet_at, get_at, fin_place, fixes, is_outbound_syn, is_inbound_syn}
 use Rattle.era_state.specs.Quantities.{base_of, iss, out, out_fin, acked, edge, top, first, end_of, behind_end, is_opened, shift, shift_with, out_seen, in_seen, in_scaled, out_scaled, out_scale, base_at, octets_with, octets_of, is_over, Untouched}
-use Rattle.era_state.specs.Silence.{SameNumbers, SilenceChangesNothing, Same}
-use Rattle.era_state.specs.Emitted.{WrittenRemains, UnacknowledgedHasNoOctet}
+use Rattle.era_state.specs.SilentSegments.{SameNumbers, SilenceChangesNothing, Same}
+use Rattle.era_state.specs.EmissionLaws.{WrittenRemains, UnacknowledgedHasNoOctet}
 use Rattle.era_state.specs.declared.era.Era.{Era}
 use Rattle.era_state.specs.declared.era.Era.TheVariants.{Called, Offered, Warm, Closed}
 use Rattle.era_state.specs.declared.warm.Warm as w
 use Rattle.era_state.specs.States.{offered, warm, closed, state_with}
-use Rattle.era_state.specs.Standing.{WarmFor, is_over_in}
+use Rattle.era_state.specs.EraFields.{WarmFor, is_over_in}
 use Rattle.era_state.specs.Eras.{StandsFor, StatesAreTheLists, SilenceStands, octets_in}
-use Rattle.era_state.specs.Alike.{IsAlike, AlikeChangesAlike, AlikeStands}
+use Rattle.era_state.specs.AlikeSegments.{IsAlike, AlikeChangesAlike, AlikeStands}
 use Rattle.era_state.proofs.Quantities.{or_none, count_same, base_push, iss_push, out_push, out_fin_push, out_seen_push, in_seen_push, in_scaled_push, out_scaled_push, out_scale_push, acked_push, opened_push, edge_push, top_push, octet_push, end_push, or_kept, count_none, first_past, syns_kept}
 
 -- What an inward segment leaves unchanged.

@@ -1,11 +1,11 @@
 -- The worked connections are emitted if a clash is settled, and not if it is forwarded.
 use Rattle.std.proofs.Common.{◌≡◌, inl, inr, ℕ, zero, suc, ◌+◌, List, [], ◌∷◌, ◌++◌, Some, true, false, refl, ap, arith, pos, slice_get}
 use Rattle.wire_base.specs.Segments.{Written}
-use Rattle.era_state.specs.declared.interval.Interval.{Interval}
+use Rattle.era_state.specs.declared.offset.Interval.{Interval}
 use Rattle.era_state.specs.Offsets.{number_in}
 use Rattle.era_state.specs.Quantities.{first}
 use Rattle.era_state.specs.Emission.{IsKeptFrame, AreEmitted}
-use Rattle.era_state.specs.Worked.{segment, opening, abcd, abXd, fin, wxyz, turning, SettledIsEmitted, ClashIsNotEmitted, TurnedIsEmitted}
+use Rattle.era_state.specs.WorkedCases.{segment, opening, abcd, abXd, fin, wxyz, turning, SettledIsEmitted, ClashIsNotEmitted, TurnedIsEmitted}
 use Rattle.era_state.proofs.Quantities.{first_past}
 use Rattle.era_state.proofs.EmittedSegments.{emitted_joins, emitted_is_told}
 

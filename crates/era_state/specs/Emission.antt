@@ -3,10 +3,10 @@
 use Rattle.std.specs.Prelude.{◌≡◌, ℕ, ◌+◌, ◌%◌, ◌^◌, ◌<◌, ◌⊎◌, true, false, List, [], ◌∷◌, ◌++◌, pos, Some, slice_get}
 use Rattle.wire_base.specs.Segments.{Written}
 use Rattle.wire_base.specs.Tcp as tcp
-use Rattle.era_state.specs.declared.interval.Interval.{Interval}
+use Rattle.era_state.specs.declared.offset.Interval.{Interval}
 use Rattle.era_state.specs.Quantities.{base_of, first}
-use Rattle.era_state.specs.Intervals.{KeptOf}
-use Rattle.era_state.specs.Frames.{IsFrame}
+use Rattle.era_state.specs.KeptIntervals.{KeptOf}
+use Rattle.era_state.specs.WrittenFrames.{IsFrame}
 
 -- an outbound segment, whose window has 16 bits
 pub record IsOutward (w : Written) : Type 0 where

@@ -10,13 +10,13 @@ use Rattle.era_state.specs.declared.era.Moved.TheVariants.{Next, Reopen, Reset}
 use Rattle.era_state.specs.Quantities.{base_of, next, iss}
 use Rattle.era_state.specs.States.{State, called, offered, warm, closed, state_of}
 use Rattle.era_state.specs.Rules.{reopens_outward}
-use Rattle.era_state.specs.Silence.{IsSilent}
-use Rattle.era_state.specs.Read.{sent}
-use Rattle.era_state.specs.Standing.{CalledFor, OfferedFor, WarmFor, is_over_in}
-use Rattle.era_state.specs.declared.interval.Interval.{Interval}
+use Rattle.era_state.specs.SilentSegments.{IsSilent}
+use Rattle.era_state.specs.SegmentFields.{sent}
+use Rattle.era_state.specs.EraFields.{CalledFor, OfferedFor, WarmFor, is_over_in}
+use Rattle.era_state.specs.declared.offset.Interval.{Interval}
 use Rattle.era_state.specs.declared.warm.Warm as fields
-use Rattle.era_state.specs.Frames.{IsGiven}
-use Rattle.era_state.specs.Changes.{WarmWith}
+use Rattle.era_state.specs.WrittenFrames.{IsGiven}
+use Rattle.era_state.specs.FrameChanges.{WarmWith}
 
 -- every field is the quantity of the list, and the state is the list's
 abbrev pub StandsFor : Era → List Written → Type 0

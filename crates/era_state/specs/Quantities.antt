@@ -5,9 +5,9 @@
 use Rattle.std.specs.Prelude.{◌≡◌, ℕ, ◌-◌, ◌&&◌, max, min, Bool, false, List, fold, ℤ, pos, ◌+ℤ◌, Option, Some, None, is_none, is_some, nat_le, if◌then◌else◌}
 use Rattle.std.specs.List.{list_any, count_by, range_with_len}
 use Rattle.wire_base.specs.Segments.{Written}
-use Rattle.era_state.specs.Words.{first_of, last_of, greatest, Moment, moments}
+use Rattle.era_state.specs.ListElements.{first_of, last_of, greatest, Moment, moments}
 use Rattle.era_state.specs.Offsets.{nat_of, number_in}
-use Rattle.era_state.specs.Marks.{is_outbound_syn, is_inbound_syn, is_outbound_fin, number_behind, fixes, ack_of, edge_place, top_place, octet_at, fin_place}
+use Rattle.era_state.specs.SegmentMarks.{is_outbound_syn, is_inbound_syn, is_outbound_fin, number_behind, fixes, ack_of, edge_place, top_place, octet_at, fin_place}
 use Rattle.wire_base.specs.declared.limits.TheConstants.{MAX_SHIFT}
 
 -- Base: the number of the stream's first octet, from the first segment that fixes one

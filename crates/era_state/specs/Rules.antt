@@ -6,10 +6,10 @@ use Rattle.std.specs.Prelude.{ℕ, ◌+◌, ◌%◌, ◌^◌, ◌&&◌, ◌||◌
 use Rattle.wire_base.specs.Tcp as tcp
 use Rattle.wire_base.specs.Segments.{Written}
 use Rattle.era_state.specs.Offsets.{off}
-use Rattle.era_state.specs.Marks.{is_inbound_syn, is_outbound_syn}
+use Rattle.era_state.specs.SegmentMarks.{is_inbound_syn, is_outbound_syn}
 use Rattle.era_state.specs.Quantities.{base_of, base_at, acked, next, iss}
 use Rattle.era_state.specs.States.{State, state_of, is_called, is_offered, is_closed, is_acknowledged}
-use Rattle.era_state.specs.Keeping.{bounds_of, offset_of, begins_below, passes_window, passes_end}
+use Rattle.era_state.specs.ForwardedOctets.{bounds_of, offset_of, begins_below, passes_window, passes_end}
 
 -- the number is one past that of `call`, if there is one
 abbrev pub follows : Option ℕ → ℕ → Bool

@@ -2,7 +2,7 @@
 ghost use Rattle.std.specs.Prelude.{◌≡◌, ℕ, List, [], ◌∷◌, ◌++◌, length, true, false};
 ghost use Rattle.wire_base.specs.Segments.{Written};
 ghost use Rattle.wire_base.specs.Tcp as tcp;
-ghost use Rattle.era_state.specs.Read.{sent, came};
+ghost use Rattle.era_state.specs.SegmentFields.{sent, came};
 
 use crate::offered::Offered;
 use crate::segment::Seg;
@@ -22,7 +22,7 @@ pub struct Called {
 }
 
 impl Called {
-    ghost use Rattle.era_state.specs.Standing.{CalledFor, OfferedFor};
+    ghost use Rattle.era_state.specs.EraFields.{CalledFor, OfferedFor};
 
     /// Returns the era that an outbound SYN without ACK begins.
     pub fn call(seg: &Seg) -> Called

@@ -3,15 +3,14 @@ ghost use Rattle.std.specs.Prelude.{◌≡◌, ℕ, ◌+◌, ◌^◌, ◌<◌, �
 ghost use Rattle.wire_base.specs.Segments.{Written};
 ghost use Rattle.wire_base.specs.Tcp as tcp;
 ghost use Rattle.era_state.specs.Offsets.{off};
-ghost use Rattle.era_state.specs.Read.{sent, came};
+ghost use Rattle.era_state.specs.SegmentFields.{sent, came};
 ghost use Rattle.era_state.specs.Rules.{is_awaited, follows, precedes};
 ghost use Rattle.era_state.specs.declared.era.SynAnswer.TheVariants.{Hear, Reopen, Stray};
-ghost use Rattle.era_state.specs.Standing.{CalledFor, OfferedFor, WarmFor, is_over_in};
+ghost use Rattle.era_state.specs.EraFields.{CalledFor, OfferedFor, WarmFor, is_over_in};
 
 use crate::called::Called;
-use crate::interval::Interval;
 use crate::offered::Offered;
-use crate::offset::Offset;
+use crate::offset::{Interval, Offset};
 use crate::segment::Seg;
 use crate::warm::Warm;
 use wire_base::sequence_plus;
@@ -100,13 +99,13 @@ fn repeated(base: u32, sequence: u32, reopens: bool) -> SynAnswer
 }
 
 impl Era {
-    ghost use Rattle.era_state.specs.Heard.{is_reopen, syn_answer};
+    ghost use Rattle.era_state.specs.SynAnswers.{is_reopen, syn_answer};
     ghost use Rattle.era_state.specs.Rules.{reopens_outward, reopens_outward_at, reopens_inward, t_state, t_syn, takes_reset, t_rst};
     ghost use Rattle.era_state.specs.States.{is_called, is_offered, is_closed};
     ghost use Rattle.era_state.specs.Eras.{StandsFor, IsSettled, MovesSettled, MovesTo, MovesNear, MovesSame, NextIs, is_reset, state_in, base_in, iss_in, acked_in, octets_in, last_in, GivesTo, ForwardsIn};
     ghost use Rattle.era_state.specs.Quantities.{base_at, fresh_places, octets_of};
-    ghost use Rattle.era_state.specs.Intervals.{KeptOf};
-    ghost use Rattle.era_state.specs.Frames.{IsFrame};
+    ghost use Rattle.era_state.specs.KeptIntervals.{KeptOf};
+    ghost use Rattle.era_state.specs.WrittenFrames.{IsFrame};
 
     /// Returns the era in the state Warm or Closed.
     pub fn settled(last: Warm) -> Era

@@ -1,11 +1,11 @@
 //! Laws of the segments of an era.
 ghost use Rattle.era_state.specs.Offsets.{OffsetsAreRead, PlacesAreRead};
 ghost use Rattle.era_state.specs.Eras.{StatesAreTheLists, SilenceStands};
-ghost use Rattle.era_state.specs.Laws.{AckedNeverFalls, AckedGrowsNear, AckedIsGreatest, FirstStays, IntervalsFit, KeptOctetsAreNear, OctetsAreBelowTop, FrameOctets, FinStandsAtEnd, ShiftIsOfTheMoment};
-ghost use Rattle.era_state.specs.Silence.{SilenceChangesNothing};
-ghost use Rattle.era_state.specs.Alike.{AlikeChangesAlike, AlikeStands};
-ghost use Rattle.era_state.specs.Emitted.{WrittenRemains, InwardsAcknowledgeNothing, UnacknowledgedHasNoOctet, EmittedJoins, EmittedIsNear, EmittedIsTold, EmittedOctetsArePlaces, UnbasedHasNoOctet};
-ghost use Rattle.era_state.specs.Worked.{SettledIsEmitted, ClashIsNotEmitted, TurnedIsEmitted};
+ghost use Rattle.era_state.specs.QuantityLaws.{AckedNeverFalls, AckedGrowsNear, AckedIsGreatest, FirstStays, IntervalsFit, KeptOctetsAreNear, OctetsAreBelowTop, FrameOctets, FinStandsAtEnd, ShiftIsOfTheMoment};
+ghost use Rattle.era_state.specs.SilentSegments.{SilenceChangesNothing};
+ghost use Rattle.era_state.specs.AlikeSegments.{AlikeChangesAlike, AlikeStands};
+ghost use Rattle.era_state.specs.EmissionLaws.{WrittenRemains, InwardsAcknowledgeNothing, UnacknowledgedHasNoOctet, EmittedJoins, EmittedIsNear, EmittedIsTold, EmittedOctetsArePlaces, UnbasedHasNoOctet};
+ghost use Rattle.era_state.specs.WorkedCases.{SettledIsEmitted, ClashIsNotEmitted, TurnedIsEmitted};
 
 /// Proves that the offset of a number is the one from `at` - 2^31 to below `at` + 2^31.
 pub fn offsets_are_read()

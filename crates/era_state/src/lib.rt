@@ -15,7 +15,6 @@
 
 pub mod called;
 pub mod era;
-pub mod interval;
 pub mod laws;
 pub mod offered;
 pub mod offset;
@@ -26,8 +25,8 @@ pub mod warm;
 
 pub use called::Called;
 pub use era::{Closed, Era, Moved, SynAnswer};
-pub use interval::Interval;
 pub use offered::Offered;
+pub use offset::Interval;
 pub use probe::Probe;
 pub use segment::Seg;
 pub use syns::Syns;

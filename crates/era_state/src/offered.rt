@@ -2,8 +2,8 @@
 ghost use Rattle.std.specs.Prelude.{◌≡◌, ℕ, List, [], ◌∷◌, ◌++◌, length, None, is_some, true, false};
 ghost use Rattle.wire_base.specs.Segments.{Written};
 ghost use Rattle.wire_base.specs.Tcp as tcp;
-ghost use Rattle.era_state.specs.Marks.{ack_of};
-ghost use Rattle.era_state.specs.Read.{sent, came};
+ghost use Rattle.era_state.specs.SegmentMarks.{ack_of};
+ghost use Rattle.era_state.specs.SegmentFields.{sent, came};
 
 use crate::segment::Seg;
 use crate::syns::Syns;
@@ -26,7 +26,7 @@ pub struct Offered {
 }
 
 impl Offered {
-    ghost use Rattle.era_state.specs.Standing.{OfferedFor};
+    ghost use Rattle.era_state.specs.EraFields.{OfferedFor};
 
     /// Returns the era that an inbound SYN without ACK begins.
     pub fn offer(seg: &Seg) -> Offered

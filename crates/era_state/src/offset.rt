@@ -1,12 +1,48 @@
-//! Sequence numbers as offsets of a stream.
+//! Sequence numbers as offsets of a stream, and which octets of an inbound segment are forwarded.
 ghost use Rattle.std.specs.Prelude.{◌≡◌, ℕ, ◌+◌, ◌^◌, ◌<◌, ◌≤◌, pos, int_lt, ◌+ℤ◌, ◌≤ℤ◌, Some};
 ghost use Rattle.std.specs.Ordering.{int_eq};
 ghost use Rattle.era_state.specs.Offsets.{off, natural, nat_of};
+ghost use Rattle.era_state.specs.ForwardedOctets.{top_after, end_after};
 
 use wire_base::{sequence_distance, sequence_plus};
 
-/// 2^31, half of the sequence numbers.
-pub(crate) const HALF: u64 = 2147483648;
+// 2^31, half of the sequence numbers.
+const HALF: u64 = 2147483648;
+
+/// Forwarded octets of a segment, from the offset `lo` to below `hi` (none if these are equal);
+/// whether its FIN is forwarded; and whether the rules T_OLD (`below`), T_WINDOW and T_END hold.
+#[derive(Clone, Copy, Debug, PartialEq, Eq)]
+pub struct Interval {
+    pub lo: u64,
+    pub hi: u64,
+    pub fin: bool,
+    pub below: bool,
+    pub window: bool,
+    pub end: bool,
+}
+
+impl Interval {
+    // Returns the offset after all octets written inwards, including these.
+    pub(crate) fn top_after(&self, top: u64) -> u64
+        ensures { result ≡ top_after top self.now.lo self.now.hi }
+    {
+        if self.lo < self.hi {
+            top.max(self.hi)
+        } else {
+            top
+        }
+    }
+
+    // Returns the end: the offset of the first FIN stays.
+    pub(crate) fn end_after(&self, end: Option<u64>) -> Option<u64>
+        ensures { result ≡ end_after end self.now.fin self.now.hi }
+    {
+        match end {
+            Some(end) => Some(end),
+            None => { if self.fin { Some(self.hi) } else { None } }
+        }
+    }
+}
 
 // Offset of a sequence number in a stream, which may be below 0; stored 2^31 larger.
 #[derive(Clone, Copy)]
@@ -15,7 +51,7 @@ pub(crate) struct Offset {
 }
 
 impl Offset {
-    ghost use Rattle.era_state.specs.Raised.{offset_in};
+    ghost use Rattle.era_state.specs.working.StoredOffsets.{offset_in};
 
     // Returns the offset of a number relative to `acked`.
     pub(crate) fn of(base: u32, acked: u64, number: u32) -> Offset

@@ -17,8 +17,9 @@ pub struct Seg {
 }
 
 impl Seg {
-    ghost use Rattle.era_state.specs.Marks.{number_behind, ack_of, edge_place, iss_after};
-    ghost use Rattle.era_state.specs.Read.{sent};
+    ghost use Rattle.era_state.specs.SegmentMarks.{number_behind, ack_of, edge_place};
+    ghost use Rattle.era_state.specs.working.FirstSyns.{iss_after};
+    ghost use Rattle.era_state.specs.SegmentFields.{sent};
     ghost use Rattle.wire_base.specs.declared.limits.TheConstants.{MAX_SHIFT};
 
     // Returns the sequence number after the segment's octets, SYN and FIN.

@@ -35,8 +35,9 @@ fn greater(old: Option<u8>, new: Option<u8>) -> Option<u8>
 }
 
 impl Syns {
-    ghost use Rattle.era_state.specs.Read.{sent, came};
-    ghost use Rattle.era_state.specs.Scales.{SynsFor, SynsAfter, shift_of};
+    ghost use Rattle.era_state.specs.SegmentFields.{sent, came};
+    ghost use Rattle.era_state.specs.WindowScales.{SynsFor};
+    ghost use Rattle.era_state.specs.working.ScaleChanges.{SynsAfter, shift_of};
     ghost use Rattle.wire_base.specs.declared.limits.TheConstants.{MAX_SHIFT};
 
     // Returns the value for no SYN.

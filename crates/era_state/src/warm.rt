@@ -3,12 +3,11 @@ ghost use Rattle.std.specs.Prelude.{◌≡◌, ℕ, ◌+◌, ◌*◌, ◌^◌, �
 ghost use Rattle.wire_base.specs.Segments.{Written};
 ghost use Rattle.wire_base.specs.Tcp as tcp;
 ghost use Rattle.era_state.specs.Offsets.{number_in, whole};
-ghost use Rattle.era_state.specs.Marks.{edge_place};
-ghost use Rattle.era_state.specs.Read.{sent, received, came};
+ghost use Rattle.era_state.specs.SegmentMarks.{edge_place};
+ghost use Rattle.era_state.specs.SegmentFields.{sent, received, came};
 ghost use Rattle.wire_base.specs.declared.limits.TheConstants.{MAX_SHIFT};
 
-use crate::interval::Interval;
-use crate::offset::Offset;
+use crate::offset::{Interval, Offset};
 use crate::segment::Seg;
 use crate::syns::Syns;
 use wire_base::sequence_plus;
@@ -70,12 +69,13 @@ impl Warm {
     ghost use Rattle.std.specs.Prelude.{None, ◌||◌, ◌-◌, pos, ◌+ℤ◌};
     ghost use Rattle.era_state.specs.Offsets.{off};
     ghost use Rattle.era_state.specs.Quantities.{base_at, behind_end, fresh_places};
-    ghost use Rattle.era_state.specs.Keeping.{reach, is_kept_fin, ends_below, frame_sequence_of};
-    ghost use Rattle.era_state.specs.Raised.{offset_in};
-    ghost use Rattle.era_state.specs.Standing.{WarmFor, is_over_in, bounds_in};
-    ghost use Rattle.era_state.specs.Changes.{WarmOpens, WarmAfter, WarmCalled, WarmWith};
-    ghost use Rattle.era_state.specs.Intervals.{Keeps, KeptOf};
-    ghost use Rattle.era_state.specs.Frames.{IsGiven, IsFrame};
+    ghost use Rattle.era_state.specs.ForwardedOctets.{reach, is_kept_fin, ends_below, frame_sequence_of};
+    ghost use Rattle.era_state.specs.working.StoredOffsets.{offset_in};
+    ghost use Rattle.era_state.specs.EraFields.{WarmFor, is_over_in, bounds_in};
+    ghost use Rattle.era_state.specs.working.WarmChanges.{WarmOpens, WarmAfter, WarmCalled};
+    ghost use Rattle.era_state.specs.FrameChanges.{WarmWith};
+    ghost use Rattle.era_state.specs.KeptIntervals.{Keeps, KeptOf};
+    ghost use Rattle.era_state.specs.WrittenFrames.{IsGiven, IsFrame};
 
     // Returns the era after an outbound segment that acknowledges an offset, where none was
     // acknowledged before.

@@ -1,6 +1,6 @@
 //! Captures of both kinds, read in parts.
 ghost use Rattle.std.specs.Prelude.{◌≡◌, ◌≤◌, true, length};
-ghost use Rattle.capture_input.specs.Reading.{is_open_in};
+ghost use Rattle.capture_input.specs.ReaderState.{is_open_in};
 ghost use Rattle.wire_base.specs.declared.limits.TheConstants.{MAX_CAPTURED};
 
 use crate::pcapng::joined;

@@ -1,4 +1,6 @@
-ghost use Rattle.std.specs.Prelude.{◌≡◌, ◌<◌, []};
+ghost use Rattle.std.specs.Prelude.{◌≡◌, ◌<◌, ◌≤◌, [], ◌++◌, length, OnOk};
+ghost use Rattle.std.specs.Io.KnownBytes.{Appends};
+ghost use Rattle.edge_io.specs.OutsideEnds.{octets_of};
 
 use edge_io::{
     BufferedSink, BufferedSource, Failed, FileSink, FileSource, LineOut, MAX_FRAME, MemSink,
@@ -149,6 +151,39 @@ fn an_interrupted_call_is_repeated(rt: HostRuntime) {
     assert_eq!(rt; interrupted_write(1), (true, false));
     // A write that takes no octet is an error.
     assert_eq!(rt; interrupted_write(0), (false, true));
+}
+
+// Puts two pieces, and flushes the sink. That the writer has both follows from the clauses of `put`
+// and `flush`.
+fn put_both<W: Write + Drop>(
+    sink: &mut BufferedSink<W>,
+    first: &[u8],
+    second: &[u8],
+) -> Result<(), Failed>
+    ensures { OnOk result (Appends (octets_of sink.old) sink.new.written (first.now ++ second.now)) }
+{
+    sink.put(first)?;
+    sink.put(second)?;
+    sink.flush()
+}
+
+// Puts the octets into a sink over a vector, in two pieces: 1,000 octets and the others. Returns
+// whether the vector then has them all.
+fn is_kept_in_memory(alloc: Global, octets: &[u8]) -> bool
+    requires { 1000 ≤ length octets.now }
+{
+    let mut held = Vec::new(alloc);
+    let mut sink = BufferedSink::over(Some(&mut held));
+    let put = put_both(&mut sink, &octets[..1_000], &octets[1_000..]).is_ok();
+    drop(sink);
+    put && held.as_slice() == octets
+}
+
+#[test]
+fn a_writer_in_memory_has_what_its_sink_was_given(rt: HostRuntime) -> Result<(), Fail> {
+    let octets = many_octets(rt.alloc())?;
+    assert!(rt; octets.len() >= 1_000 && is_kept_in_memory(rt.alloc(), &octets));
+    Ok(())
 }
 
 // Reads from a missing file. Returns whether there was no error before, whether the read fails, and

@@ -1,2 +1,2 @@
-pub mod Header
-pub mod Quote
+pub mod HeaderFields
+pub mod QuotedPacket

@@ -1,6 +1,6 @@
 //! The header of an ICMP message.
 ghost use Rattle.std.specs.Prelude.{◌≡◌, ◌≤◌, length, OnOk};
-ghost use Rattle.icmp_codec.specs.Header.{parsed};
+ghost use Rattle.icmp_codec.specs.HeaderFields.{parsed};
 
 use thiserror::Error;
 use wire_base::sum_right;

@@ -1,6 +1,6 @@
 //! The packet that an ICMP error message quotes.
 ghost use Rattle.std.specs.Prelude.{◌≡◌};
-ghost use Rattle.icmp_codec.specs.Quote.{quoted_in};
+ghost use Rattle.icmp_codec.specs.QuotedPacket.{quoted_in};
 
 use wire_base::{Addr, u16_at, u32_at};
 

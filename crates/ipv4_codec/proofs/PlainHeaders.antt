@@ -3,12 +3,11 @@ use Rattle.std.proofs.Common.{◌≡◌, zero-add, ℕ, ◌+◌, ◌*◌, ◌/�
 use Rattle.wire_base.specs.Ipv4 as ip
 use Rattle.wire_base.specs.Numbers.{with_u16}
 use Rattle.wire_base.specs.Plain.{IsPlainHeader}
-use Rattle.wire_base.specs.Sums.{word_sum, checksum_for, is_right, sum_is_right}
-use Rattle.wire_base.proofs.Checksums.{word_sum-with_u16, checksum_for-below, is_right-checked}
-use Rattle.wire_base.proofs.Octets.{two-octets}
+use Rattle.wire_base.specs.Checksums.{word_sum, checksum_for, is_right, sum_is_right}
+use Rattle.wire_base.proofs.Octets.{word_sum-with_u16, checksum_for-below, is_right-checked, two-octets}
 use Rattle.ipv4_codec.specs.declared.header.Ipv4.{Ipv4}
-use Rattle.ipv4_codec.specs.Header.{fields_of}
-use Rattle.ipv4_codec.specs.Write.{octets_of, plain_fields, plain_header}
+use Rattle.ipv4_codec.specs.HeaderFields.{fields_of}
+use Rattle.ipv4_codec.specs.WrittenHeader.{octets_of, plain_fields, plain_header}
 
 -- the octets with their checksum written into its field are the header
 pub with_u16-octets_of : (head : Ipv4) (payload sum : ℕ) (bare header : List ℕ) → bare ≡ octets_of head (20 + payload) 0 → sum ≡ checksum_for (0 + word_sum bare) → header ≡ with_u16 bare 10 sum → header ≡ plain_header head payload

@@ -1,3 +1,3 @@
-pub mod Header
-pub mod Options
-pub mod Write
+pub mod HeaderFields
+pub mod OptionFacts
+pub mod WrittenHeader

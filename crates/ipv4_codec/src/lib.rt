@@ -9,9 +9,7 @@
 #![tactic(auto)]
 
 pub mod header;
-pub mod option_area;
 pub mod write;
 
-pub use header::{IpFault, Ipv4, parse, parse_into};
-pub use option_area::{BadOption, OptionFacts, options};
+pub use header::{BadOption, IpFault, Ipv4, OptionFacts, options, parse, parse_into};
 pub use write::write_plain;

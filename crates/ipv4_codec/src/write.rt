@@ -1,9 +1,9 @@
 //! Headers without options, written.
 ghost use Rattle.std.specs.Prelude.{◌≡◌, ◌+◌, ◌≤◌, ◌++◌, true, length, drop};
-ghost use Rattle.ipv4_codec.specs.Header.{fields_of};
-ghost use Rattle.ipv4_codec.specs.Write.{octets_of, plain_fields, plain_header};
+ghost use Rattle.ipv4_codec.specs.HeaderFields.{fields_of};
+ghost use Rattle.ipv4_codec.specs.WrittenHeader.{octets_of, plain_fields, plain_header};
 ghost use Rattle.wire_base.specs.Ipv4 as ip;
-ghost use Rattle.wire_base.specs.Sums.{sum_is_right};
+ghost use Rattle.wire_base.specs.Checksums.{sum_is_right};
 ghost use Rattle.wire_base.specs.declared.limits.TheConstants.{MAX_PAYLOAD};
 
 use crate::Ipv4;

@@ -4,13 +4,15 @@ use Rattle.std.proofs.Common.{◌≡◌, ◌≢◌, ◌==◌, ℕ, suc, true, no
 use Rattle.std.specs.List.{AllByRecursion, Any, AllPairs, All}
 use Rattle.std.proofs.lemmas.List.Elements.{filter-append, recursion_from_All, All-from_recursion}
 use Rattle.std.proofs.lemmas.List.{get_or_default, map-append}
-use Rattle.linked_table.specs.Rings.{In, IsRing, HasRing, walk, link_at}
-use Rattle.linked_table.specs.Sound.{slot_of, pair_at, cons_entry, entries_of, bucket_number, table_of, IsSound}
-use Rattle.linked_table.specs.Table.{Entry, Pairwise, without, only, IsIn, SplitAt, Wherever, with_value, revalued, Table, first_slot}
+use Rattle.linked_table.specs.working.Rings.{In, IsRing, HasRing}
+use Rattle.linked_table.specs.RingWalks.{walk, link_at}
+use Rattle.linked_table.specs.TableEntries.{slot_of, pair_at, cons_entry, entries_of, table_of}
+use Rattle.linked_table.specs.working.SoundTable.{bucket_number, IsSound}
+use Rattle.linked_table.specs.EntryTable.{Entry, Pairwise, without, only, IsIn, SplitAt, Wherever, with_value, revalued, Table, first_slot}
 use Rattle.linked_table.specs.declared.table.Slot.{Slot}
-use Rattle.linked_table.specs.Table as table
-use Rattle.linked_table.specs.declared.ring.Links.{Links}
-use Rattle.linked_table.specs.Nodes.{Columns}
+use Rattle.linked_table.specs.EntryTable as table
+use Rattle.linked_table.specs.declared.list.Links.{Links}
+use Rattle.linked_table.specs.NodeColumns.{Columns}
 use Rattle.linked_table.proofs.Lists.{Any-head, Any-tail, Any-cases, split_any, pairwise, pairs_before, pairs_after, all_after, all_weaker, filter_rest, map_same, AllPairs-from_recursion}
 use Rattle.linked_table.proofs.Rings.{walk-ring, not_after, hub_apart}
 

@@ -1,7 +1,8 @@
 -- Folds keep a number modulo the prime, and the value of a polynomial.
 use Rattle.std.proofs.Common.{◌≡◌, ℕ, ◌+◌, ◌-◌, ◌*◌, ◌%◌, ◌^◌, ◌<◌, ◌≤◌, sym, ap, ◌∙◌, arith}
 use Rattle.std.proofs.lemmas.Nat.{mul-le, mul-mod_first}
-use Rattle.linked_table.specs.Hashes.{prime, folded, point_of, hash_of_words}
+use Rattle.linked_table.specs.Hashes.{prime, point_of, hash_of_words}
+use Rattle.linked_table.specs.working.FoldedNumbers.{folded}
 
 -- a fold is the same modulo the prime
 fold_same : (number : ℕ) → folded number % prime ≡ number % prime

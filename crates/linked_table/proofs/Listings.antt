@@ -4,11 +4,13 @@ use Rattle.std.specs.List.{AllByRecursion, IsDistinct, list_any, range_with_len}
 use Rattle.std.proofs.lemmas.Bool.{cases_eq, eq-eqb, ne_eqb}
 use Rattle.std.proofs.lemmas.List.{set-get_or, map-append}
 use Rattle.std.proofs.lemmas.Map.Steps.{length-le_from_distinct_below}
-use Rattle.linked_table.specs.declared.ring.Links.{Links}
+use Rattle.linked_table.specs.declared.list.Links.{Links}
 use Rattle.linked_table.specs.declared.table.Slot.{Slot}
-use Rattle.linked_table.specs.Rings.{lone, link_at, In, Joins, IsRing, HasRing, with_after, with_before, unlinked, isolated, linked_last}
-use Rattle.linked_table.specs.Sound.{slot_of}
-use Rattle.linked_table.specs.Listing.{Listing, others, first_of, slots_to, listing_of, IsThreaded}
+use Rattle.linked_table.specs.working.Rings.{lone, In, Joins, IsRing, HasRing, with_after, with_before, unlinked, isolated, linked_last}
+use Rattle.linked_table.specs.RingWalks.{link_at}
+use Rattle.linked_table.specs.TableEntries.{slot_of}
+use Rattle.linked_table.specs.Listing.{Listing, others, first_of, slots_to, listing_of}
+use Rattle.linked_table.specs.working.ListingRings.{IsThreaded}
 use Rattle.linked_table.proofs.Rings.{In-splits, In-append_left, In-append_right, In-append_cases, In-rest, ring_tail, not_after, after_in, last_in, hub_apart, cut_slot, cut_before_inside, cut_after_inside, cut_not_before, cut_not_after, cut_gone, last_ends, HasRing-cut, Joins-cut, push_last_inside, HasRing-push, Joins-push}
 use Rattle.linked_table.proofs.Nodes.{HasRing-lone}
 

@@ -3,7 +3,7 @@
 use Rattle.std.proofs.Common.{zero, suc, inl, inr, ◌⊎◌, List, [], ◌∷◌, refl, sym, subst, arith, ◌≡◌, Bool, true, false, cond, ap, ◌∙◌, ℕ, ◌<◌, ◌++◌, length, get_or, map}
 use Rattle.std.specs.List.{Any, AllPairs, filter, AllByRecursion}
 use Rattle.std.proofs.lemmas.List.Elements.{All-from_recursion}
-use Rattle.linked_table.specs.Table.{Pairwise}
+use Rattle.linked_table.specs.EntryTable.{Pairwise}
 
 -- Facts about some, about each and about each two elements of a list, by recursion on it.
 

@@ -9,11 +9,14 @@ use Rattle.std.proofs.lemmas.Nat.{mul-le}
 use Rattle.std.proofs.lemmas.List.Sums.{sum_by-set}
 use Rattle.std.proofs.lemmas.List.Folds.{sum_by-replicate}
 use Rattle.std.proofs.lemmas.List.FromFn.{get_or-map-range_with_len, length-map-range_with_len, length-range_with_len}
-use Rattle.linked_table.specs.declared.ring.Links.{Links}
+use Rattle.linked_table.specs.declared.list.Links.{Links}
 use Rattle.linked_table.specs.declared.node.Node.{Node}
-use Rattle.linked_table.specs.Rings.{link_at, with_after, with_before, unlinked, linked_last, lone, In, Joins, HasRing}
-use Rattle.linked_table.specs.Nodes.{Columns, columns, chains_of, Rechains, lone_node}
-use Rattle.linked_table.specs.Sound.{pair_at, bucket_number, bucket_at, IsAllFree, IsSound}
+use Rattle.linked_table.specs.RingWalks.{link_at}
+use Rattle.linked_table.specs.working.Rings.{with_after, with_before, unlinked, linked_last, lone, In, Joins, HasRing}
+use Rattle.linked_table.specs.NodeColumns.{Columns, columns}
+use Rattle.linked_table.specs.working.NodeLinks.{chains_of, Rechains, lone_node}
+use Rattle.linked_table.specs.TableEntries.{pair_at}
+use Rattle.linked_table.specs.working.SoundTable.{bucket_number, bucket_at, IsAllFree, IsSound}
 use Rattle.linked_table.proofs.Rings.{push_last_inside, HasRing-push, HasRing-push_other}
 
 -- The effect of each write to a node on what the nodes hold.

@@ -1,12 +1,14 @@
 -- An entry moves to the end of the list by recency, or leaves it and its bucket.
 use Rattle.std.proofs.Common.{◌≡◌, ℕ, ◌+◌, ◌<◌, inl, inr, Some, List, [], ◌∷◌, ◌++◌, length, refl, sym, ap, subst, ◌∙◌, arith, length-append, append-nil, ◌≢◌, ◌-◌, Option, None, set}
 use Rattle.std.proofs.lemmas.Bool.{cases_eq}
-use Rattle.linked_table.specs.declared.ring.Links.{Links}
+use Rattle.linked_table.specs.declared.list.Links.{Links}
 use Rattle.linked_table.specs.declared.table.Slot.{Slot}
-use Rattle.linked_table.specs.Rings.{link_at, In, HasRing, walk, unlinked, linked_last}
-use Rattle.linked_table.specs.Nodes.{Columns}
-use Rattle.linked_table.specs.Sound.{pair_at, entries_of, table_of, IsSound, bucket_number, bucket_at}
-use Rattle.linked_table.specs.Table.{Table, IsIn, without, only}
+use Rattle.linked_table.specs.RingWalks.{link_at, walk}
+use Rattle.linked_table.specs.working.Rings.{In, HasRing, unlinked, linked_last}
+use Rattle.linked_table.specs.NodeColumns.{Columns}
+use Rattle.linked_table.specs.TableEntries.{pair_at, entries_of, table_of}
+use Rattle.linked_table.specs.working.SoundTable.{IsSound, bucket_number, bucket_at}
+use Rattle.linked_table.specs.EntryTable.{Table, IsIn, without, only}
 use Rattle.linked_table.proofs.Rings.{In-splits, In-append_left, In-append_right, In-append_cases, In-whole, In-rest, cut_slot, cut_inside, cut_before_inside, cut_after_inside, cut_not_before, cut_not_after, cut_gone, last_ends, HasRing-cut, HasRing-cut_other, length-cut, push_last_inside, HasRing-push, HasRing-push_other}
 use Rattle.linked_table.proofs.Entries.{entries-append, without-entries, only-entries, walk_ring, entries_are, used_of, entries-kept}
 use Rattle.linked_table.proofs.Nodes.{bucket_below, same_key, Writes, writes, Changes, changes}

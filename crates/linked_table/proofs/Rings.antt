@@ -2,8 +2,9 @@
 -- the last before the sentinel.
 use Rattle.std.proofs.Common.{◌≡◌, ℕ, inl, inr, ◌⊎◌, List, [], ◌∷◌, ◌++◌, ap, length, refl, sym, subst, ◌∙◌, arith, length-append, append_assoc, ◌≢◌, ◌<◌, set, length-set, get_or-set_same, get_or-set_other}
 use Rattle.std.proofs.lemmas.Bool.{cases_eq}
-use Rattle.linked_table.specs.Rings.{In, link_at, walk, IsRing, Joins, with_after, with_before, unlinked, linked_last, HasRing}
-use Rattle.linked_table.specs.declared.ring.Links.{Links}
+use Rattle.linked_table.specs.working.Rings.{In, IsRing, Joins, with_after, with_before, unlinked, linked_last, HasRing}
+use Rattle.linked_table.specs.RingWalks.{link_at, walk}
+use Rattle.linked_table.specs.declared.list.Links.{Links}
 
 -- Membership of a node in a list of nodes.
 

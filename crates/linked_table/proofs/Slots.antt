@@ -3,11 +3,13 @@ use Rattle.std.proofs.Common.{◌≡◌, ◌≢◌, ℕ, ◌+◌, ◌<◌, inl, 
 use Rattle.std.proofs.lemmas.Bool.{cases_eq, eq-eqb, ne_eqb}
 use Rattle.std.proofs.lemmas.List.{get_or_default}
 use Rattle.std.proofs.lemmas.List.Elements.{All-from_recursion, recursion_from_All}
-use Rattle.linked_table.specs.declared.ring.Links.{Links}
-use Rattle.linked_table.specs.Rings.{link_at, In, IsRing, HasRing, unlinked, linked_last}
-use Rattle.linked_table.specs.Nodes.{Columns}
-use Rattle.linked_table.specs.Sound.{bucket_number, slot_of, pair_at, bucket_at, cons_entry, entries_of, table_of, IsSound, IsKept}
-use Rattle.linked_table.specs.Table.{Table, Entry, HasNone, IsNotIn, with_value}
+use Rattle.linked_table.specs.declared.list.Links.{Links}
+use Rattle.linked_table.specs.RingWalks.{link_at}
+use Rattle.linked_table.specs.working.Rings.{In, IsRing, HasRing, unlinked, linked_last}
+use Rattle.linked_table.specs.NodeColumns.{Columns}
+use Rattle.linked_table.specs.working.SoundTable.{bucket_number, bucket_at, IsSound, IsKept}
+use Rattle.linked_table.specs.TableEntries.{slot_of, pair_at, cons_entry, entries_of, table_of}
+use Rattle.linked_table.specs.EntryTable.{Table, Entry, HasNone, IsNotIn, with_value}
 use Rattle.linked_table.proofs.Rings.{In-append_cases, In-append_left, In-append_right, In-whole, last_splits, cut_slot, cut_inside, cut_before_inside, cut_after_inside, cut_gone, HasRing-cut, HasRing-cut_other, length-cut, push_last_inside, HasRing-push, HasRing-push_other}
 use Rattle.linked_table.proofs.Entries.{entry, entries-append, entries-kept, all_entries, each_entry, walk_ring, entries_are, max_is, len_is}
 use Rattle.linked_table.proofs.Nodes.{bucket_below, same_key, Writes, writes, Changes, changes}

@@ -7,12 +7,14 @@ use Rattle.std.proofs.lemmas.List.{get_or_default}
 use Rattle.std.proofs.lemmas.List.Elements.{All-from_recursion, recursion_from_All}
 use Rattle.std.specs.Cmp.{IsEquivalence}
 use Rattle.std.proofs.lemmas.List.Sums.{sum_by-set}
-use Rattle.linked_table.specs.declared.ring.Links.{Links}
+use Rattle.linked_table.specs.declared.list.Links.{Links}
 use Rattle.linked_table.specs.declared.table.Slot.{Slot}
-use Rattle.linked_table.specs.Rings.{link_at, In, IsRing}
-use Rattle.linked_table.specs.Nodes.{Columns}
-use Rattle.linked_table.specs.Sound.{slot_of, pair_at, cons_entry, entries_of, table_of, IsSound, bucket_number, bucket_at}
-use Rattle.linked_table.specs.Table.{Table, Entry, IsIn, IsCallableAt, Answers, PassesFirst, HasNone, Wherever}
+use Rattle.linked_table.specs.RingWalks.{link_at}
+use Rattle.linked_table.specs.working.Rings.{In, IsRing}
+use Rattle.linked_table.specs.NodeColumns.{Columns}
+use Rattle.linked_table.specs.TableEntries.{slot_of, pair_at, cons_entry, entries_of, table_of}
+use Rattle.linked_table.specs.working.SoundTable.{IsSound, bucket_number, bucket_at}
+use Rattle.linked_table.specs.EntryTable.{Table, Entry, IsIn, IsCallableAt, Answers, PassesFirst, HasNone, Wherever}
 use Rattle.linked_table.proofs.Rings.{In-append_right}
 use Rattle.linked_table.proofs.Entries.{entry, entries-append, each_entry, is_in, entries_are, all_entries, pair_wherever}
 use Rattle.linked_table.proofs.Nodes.{bucket_below, same_key}

@@ -3,15 +3,11 @@
 -- different pairs of words below the prime have the same hash at no more than one of the points,
 -- none of which is 0. Divided by the point, the difference of the polynomials has degree one at
 -- most, so one root at most. Nothing here states it.
-use Rattle.std.specs.Prelude.{ℕ, ◌+◌, ◌-◌, ◌*◌, ◌/◌, ◌%◌, ◌^◌}
+use Rattle.std.specs.Prelude.{ℕ, ◌+◌, ◌-◌, ◌*◌, ◌%◌, ◌^◌}
 
 -- The prime 2^61 - 1.
 abbrev pub prime : ℕ
 prime = 2 ^ 61 - 1
-
--- The bits from 61 on, added to those below: the number is the same modulo the prime.
-abbrev pub folded : ℕ → ℕ
-folded number = number % 2 ^ 61 + number / 2 ^ 61
 
 -- The point of a seed, from 1 to 2^60: at the point 0 every hash would be 0. The number added is
 -- 2^64 divided by the golden ratio, so that the points of small seeds are large.

@@ -1,7 +1,8 @@
-pub mod Table
-pub mod Rings
-pub mod Nodes
-pub mod Sound
+pub mod EntryTable
+pub mod RingWalks
+pub mod NodeColumns
+pub mod TableEntries
 pub mod Listing
 pub mod Hashes
-pub mod Lends
+pub mod LentValues
+pub mod working

@@ -1,9 +1,9 @@
--- An ordered list of slots, and how it is linked (this project's profile).
-use Rattle.std.specs.Prelude.{ℕ, zero, suc, ◌<◌, ◌⊎◌, ◌==◌, not, Option, Some, None, List, [], ◌∷◌, filter, if◌then◌else◌}
-use Rattle.linked_table.specs.declared.ring.Links.{Links}
+-- An ordered list of slots, as its links give it (this project's profile).
+use Rattle.std.specs.Prelude.{ℕ, zero, suc, ◌==◌, not, Option, Some, None, List, [], ◌∷◌, filter, if◌then◌else◌}
+use Rattle.linked_table.specs.declared.list.Links.{Links}
 use Rattle.linked_table.specs.declared.table.Slot.{Slot}
-use Rattle.linked_table.specs.Rings.{In, Joins, HasRing, link_at}
-use Rattle.linked_table.specs.Sound.{slot_of}
+use Rattle.linked_table.specs.RingWalks.{link_at}
+use Rattle.linked_table.specs.TableEntries.{slot_of}
 
 -- The listed slots, in order, and the number below which each slot is.
 pub record Listing : Type 0 where
@@ -29,9 +29,3 @@ slots_to links hub (suc most) from =
 -- sentinel's ring.
 abbrev pub listing_of : List Links → (max : ℕ) → Listing
 listing_of links max = record { slots = slots_to links max max max; max = max }
-
--- Each slot is in the ring of the listed slots, or in its own ring.
-pub record IsThreaded (links : List Links) (max : ℕ) : Type 0 where
-  pub listed : List ℕ
-  pub ring : HasRing links max max listed
-  pub others_alone : (node : ℕ) → node < max → In node listed ⊎ Joins links node node

@@ -19,13 +19,10 @@
 #![tactic(auto)]
 
 mod hash;
-mod key;
 mod list;
 mod node;
-mod ring;
 mod table;
 
-pub use hash::hash_words;
-pub use key::{Hashed, Key};
+pub use hash::{Hashed, Key, hash_words};
 pub use list::SlotList;
 pub use table::{LinkedTable, Slot};

@@ -1,9 +1,11 @@
 //! The slots of a table, linked by index.
 ghost use Rattle.std.specs.Prelude.{◌≡◌, ◌+◌, ◌<◌, ◌^◌, length};
-ghost use Rattle.linked_table.specs.Rings.{link_at, unlinked, linked_last, with_after, with_before};
-ghost use Rattle.linked_table.specs.Nodes.{columns, chains_of, Rechains, lone_node};
+ghost use Rattle.linked_table.specs.RingWalks.{link_at};
+ghost use Rattle.linked_table.specs.working.Rings.{unlinked, linked_last, with_after, with_before};
+ghost use Rattle.linked_table.specs.NodeColumns.{columns};
+ghost use Rattle.linked_table.specs.working.NodeLinks.{chains_of, Rechains, lone_node};
 
-use crate::ring::Links;
+use crate::list::Links;
 
 /// Slot of a table with its links, or the sentinel of the ring of the used or of the free slots.
 #[derive(Drop)]

@@ -2,13 +2,14 @@
 ghost use Rattle.std.specs.Prelude.{◌≡◌, ◌+◌, ◌<◌, ◌≤◌, ◌≢◌, ◌^◌, ◌↔◌, [], ◌∷◌, ◌++◌, length, map, false, Option, Some, IfOk, IfErr, OnErr, IsErr, IfSome, IfNone, IsNone};
 ghost use Rattle.std.specs.List.{All, AllPairs, range_with_len};
 ghost use Rattle.std.specs.Borrow.{sem};
-ghost use Rattle.linked_table.specs.Table.{IsIn, IsNotIn, HasNone, SplitAt, Wherever, Answers, IsCallableAt, PassesFirst, without, only, with_value, first_slot};
-ghost use Rattle.linked_table.specs.Sound.{IsAllFree, bucket_number};
-ghost use Rattle.linked_table.specs.Nodes.{columns, lone_node};
+ghost use Rattle.linked_table.specs.EntryTable.{IsIn, IsNotIn, HasNone, SplitAt, Wherever, Answers, IsCallableAt, PassesFirst, without, only, with_value, first_slot};
+ghost use Rattle.linked_table.specs.working.SoundTable.{IsAllFree, bucket_number};
+ghost use Rattle.linked_table.specs.NodeColumns.{columns};
+ghost use Rattle.linked_table.specs.working.NodeLinks.{lone_node};
 
-use crate::key::{Hashed, Key};
+use crate::hash::{Hashed, Key};
+use crate::list::{Links, lone_links};
 use crate::node::{Node, link_chain, link_last, move_last, unlink_chain};
-use crate::ring::{Links, lone_links};
 use edge_io::NoMemory;
 use std::alloc::Global;
 use std::marker::Model;
@@ -32,14 +33,15 @@ pub struct LinkedTable<K: Key, V> {
 }
 
 impl<K: Key, V> Model for LinkedTable<K, V> {
-    ghost use Rattle.linked_table.specs.Table.{Table, table_code};
+    ghost use Rattle.linked_table.specs.EntryTable.{Table, table_code};
 
     ghost Value = { Table K V };
 
     ghost coded = { table_code K.code V.code };
 
-    ghost use Rattle.linked_table.specs.Nodes.{columns};
-    ghost use Rattle.linked_table.specs.Sound.{table_of, IsSound};
+    ghost use Rattle.linked_table.specs.NodeColumns.{columns};
+    ghost use Rattle.linked_table.specs.TableEntries.{table_of};
+    ghost use Rattle.linked_table.specs.working.SoundTable.{IsSound};
 
     ghost view = { λ t. table_of t.max (columns t.nodes.items) t.len };
 
@@ -96,7 +98,7 @@ fn fill<T>(place: &mut Option<T>, value: T)
 }
 
 impl<K: Key, V> LinkedTable<K, V> {
-    ghost use Rattle.linked_table.specs.Lends.{lends_value};
+    ghost use Rattle.linked_table.specs.LentValues.{lends_value};
 
     /// Creates a table without entries, for at most `max`. The seed decides only which keys share a
     /// bucket; no result depends on it. For a `max` of 2^31 - 1 or more it returns `NoMemory`: the

@@ -10,12 +10,13 @@ use Rattle.std.proofs.lemmas.Option.{slice_get-get_or, slice_get_past}
 use Rattle.load_make.specs.declared.flow.Flow.{Flow}
 use Rattle.load_make.specs.declared.flow.Flow.TheVariants.{New}
 use Rattle.load_make.specs.declared.flow.Stream.{Stream}
-use Rattle.load_make.specs.Sequence.{following, number_at, numbers_before, actions_before, flow_of, action_of}
-use Rattle.load_make.specs.Flows.{IsWithin, is_new, is_again, is_changed, flow_after, flow_behind, stream_after, turn_of}
-use Rattle.load_make.specs.Loads.{flows_before, IsInStep}
+use Rattle.load_make.specs.NumberSequence.{following, number_at, numbers_before, actions_before, flow_of, action_of}
+use Rattle.load_make.specs.working.FlowBounds.{IsWithin, flow_behind}
+use Rattle.load_make.specs.Flows.{is_new, is_again, is_changed, flow_after, stream_after, turn_of}
+use Rattle.load_make.specs.working.FlowsBefore.{flows_before, IsInStep}
 use Rattle.load_make.specs.declared.flow.Turn.{Turn}
 use Rattle.load_make.specs.Packets.{segment_for, packet_octets}
-use Rattle.load_make.specs.Generated.{Generated, record_at, record_with, segment_numbered}
+use Rattle.load_make.specs.LoadRecords.{Generated, record_at, record_with, segment_numbered}
 
 -- The states of the connections after one more record.
 

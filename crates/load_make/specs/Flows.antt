@@ -1,6 +1,6 @@
 -- The records of a connection (this project's profile): the first is a SYN, the second its SYN ACK,
 -- and each later one is determined by its action.
-use Rattle.std.specs.Prelude.{ℕ, ◌+◌, ◌-◌, ◌≤◌, ◌==◌, ◌&&◌, ◌||◌, nat_lt, nat_le, Bool, List, [], ◌∷◌, if◌then◌else◌}
+use Rattle.std.specs.Prelude.{ℕ, ◌+◌, ◌-◌, ◌==◌, ◌&&◌, ◌||◌, nat_lt, nat_le, Bool, List, [], ◌∷◌, if◌then◌else◌}
 use Rattle.load_make.specs.declared.flow.Flow.{Flow}
 use Rattle.load_make.specs.declared.flow.Flow.TheVariants.{New, Called, Open}
 use Rattle.load_make.specs.declared.flow.Stream.{Stream}
@@ -56,23 +56,3 @@ abbrev pub turn_of : (action : ℕ) → Flow → Turn
 turn_of action New = Call
 turn_of action Called = Answer
 turn_of action (Open s) = later_turn action s
-
--- the state of a connection after its next record
-abbrev pub flow_behind : (action : ℕ) → Flow → Flow
-flow_behind action New = Called
-flow_behind action Called = Open (record { sent = 0; acked = 0 })
-flow_behind action (Open s) = Open (stream_behind action s)
-
--- no more octets are acknowledged than were sent, and at most `most` were sent
-abbrev pub IsWithin : (most : ℕ) → Flow → Type 0
-IsWithin most New = Unit {0}
-IsWithin most Called = Unit {0}
-IsWithin most (Open s) = (s.acked ≤ s.sent) × (s.sent ≤ most)
-
--- the offset of the record is at most `most`
-abbrev pub BeginsWithin : (most : ℕ) → Turn → Type 0
-BeginsWithin most Call = Unit {0}
-BeginsWithin most Answer = Unit {0}
-BeginsWithin most (Octets offset) = offset ≤ most
-BeginsWithin most (Changed offset) = offset ≤ most
-BeginsWithin most (Acknowledged offset) = offset ≤ most

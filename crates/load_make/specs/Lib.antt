@@ -1,5 +1,6 @@
-pub mod Sequence
+pub mod NumberSequence
 pub mod Flows
 pub mod Packets
-pub mod Generated
-pub mod Loads
+pub mod LoadRecords
+pub mod LoadState
+pub mod working

@@ -4,8 +4,8 @@ use Rattle.std.specs.Prelude.{ℕ, ◌+◌, ◌-◌, ◌*◌, ◌%◌, ◌^◌, 
 use Rattle.std.specs.List.{range_with_len}
 use Rattle.wire_base.specs.Segments.{Segment}
 use Rattle.ipv4_codec.specs.declared.header.Ipv4.{Ipv4}
-use Rattle.ipv4_codec.specs.Write.{plain_header}
-use Rattle.tcp_codec.specs.Write.{segment_octets}
+use Rattle.ipv4_codec.specs.WrittenHeader.{plain_header}
+use Rattle.tcp_codec.specs.WrittenSegment.{segment_octets}
 use Rattle.load_make.specs.declared.flow.Turn.{Turn}
 use Rattle.load_make.specs.declared.flow.Turn.TheVariants.{Call, Answer, Octets, Changed, Acknowledged}
 
@@ -64,14 +64,6 @@ octets_from flow offset = map (λ place. octet_at flow (offset + place)) (range_
 -- the same with 255 as the first octet
 abbrev pub changed_from : (flow offset : ℕ) → List ℕ
 changed_from flow offset = 255 ∷ drop 1 (octets_from flow offset)
-
--- the payload of a record
-abbrev pub octets_of : (flow : ℕ) → Turn → List ℕ
-octets_of flow Call = []
-octets_of flow Answer = []
-octets_of flow (Octets offset) = octets_from flow offset
-octets_of flow (Changed offset) = changed_from flow offset
-octets_of flow (Acknowledged offset) = []
 
 -- the segment of a record, with the flags SYN (2); SYN and ACK (18); ACK and PSH (24); or ACK (16)
 abbrev pub segment_for : (flow : ℕ) → Turn → Segment

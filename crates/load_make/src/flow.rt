@@ -1,6 +1,7 @@
 //! The connections of a load.
 ghost use Rattle.std.specs.Prelude.{◌≡◌, ◌+◌, ◌<◌, ◌≤◌, ◌^◌};
-ghost use Rattle.load_make.specs.Flows.{BeginsWithin, IsWithin, flow_behind, later_turn, stream_behind, turn_of};
+ghost use Rattle.load_make.specs.working.FlowBounds.{BeginsWithin, IsWithin, flow_behind};
+ghost use Rattle.load_make.specs.Flows.{later_turn, stream_behind, turn_of};
 
 // Number of payload octets of a record that has any.
 const PIECE: u64 = 512;

@@ -1,7 +1,7 @@
 //! The records of a load, one by one.
 ghost use Rattle.std.specs.Prelude.{◌≡◌, ◌+◌, ◌≤◌, length, option_map, slice_get, OnSome, IfSome, IfNone};
-ghost use Rattle.pcap_file.specs.Reads.{shown};
-ghost use Rattle.load_make.specs.Generated.{Generated};
+ghost use Rattle.pcap_file.specs.RecordReading.{shown};
+ghost use Rattle.load_make.specs.LoadRecords.{Generated};
 
 use crate::flow::Flow;
 use crate::packet::write_packet;
@@ -27,7 +27,8 @@ pub struct Load {
 }
 
 impl Model for Load {
-    ghost use Rattle.load_make.specs.Loads.{IsInStep, Making};
+    ghost use Rattle.load_make.specs.working.FlowsBefore.{IsInStep};
+    ghost use Rattle.load_make.specs.LoadState.{Making};
 
     ghost Value = { Making };
 

@@ -1,9 +1,10 @@
 //! The packets of a load.
 ghost use Rattle.std.specs.Prelude.{◌≡◌, ◌+◌, ◌<◌, ◌≤◌, ◌^◌, ℕ, List, false, length, take, []};
 ghost use Rattle.wire_base.specs.Tcp as tcp;
-ghost use Rattle.tcp_codec.specs.Write.{segment_of};
-ghost use Rattle.load_make.specs.Flows.{BeginsWithin};
-ghost use Rattle.load_make.specs.Packets.{head_of, inbound, octets_from, octets_of, outbound, packet_octets, segment_for};
+ghost use Rattle.tcp_codec.specs.WrittenSegment.{segment_of};
+ghost use Rattle.load_make.specs.working.FlowBounds.{BeginsWithin};
+ghost use Rattle.load_make.specs.Packets.{head_of, inbound, octets_from, outbound, packet_octets, segment_for};
+ghost use Rattle.load_make.specs.working.RecordPayloads.{octets_of};
 
 use crate::flow::Turn;
 use arrayvec::ArrayVec;

@@ -1,6 +1,6 @@
 //! The pseudo-random numbers that determine the records of a load.
 ghost use Rattle.std.specs.Prelude.{◌≡◌, ◌<◌};
-ghost use Rattle.load_make.specs.Sequence as sequence;
+ghost use Rattle.load_make.specs.NumberSequence as sequence;
 
 /// Returns the number that follows this one.
 pub(crate) fn following(number: u64) -> u64
@@ -12,7 +12,7 @@ pub(crate) fn following(number: u64) -> u64
 }
 
 /// Returns the connection that a number selects.
-#[tactic(auto, unfolding(crate::specs::Sequence::flow_of))]
+#[tactic(auto, unfolding(crate::specs::NumberSequence::flow_of))]
 pub(crate) fn flow_of(number: u64) -> u8
     ensures exact { result ≡ sequence.flow_of number }
     ensures small { result < 64 }
@@ -21,7 +21,7 @@ pub(crate) fn flow_of(number: u64) -> u8
 }
 
 /// Returns the action that a number selects.
-#[tactic(auto, unfolding(crate::specs::Sequence::action_of))]
+#[tactic(auto, unfolding(crate::specs::NumberSequence::action_of))]
 pub(crate) fn action_of(number: u64) -> u8
     ensures { result ≡ sequence.action_of number }
 {

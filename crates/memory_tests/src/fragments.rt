@@ -1,9 +1,9 @@
 //! Worked cases in the code: fragments that overlap, a clash, the longest datagram, one datagram at
 //! a time, and time.
 ghost use Rattle.std.specs.Prelude.{◌≡◌, ◌<◌, ◌≤◌, length, false};
-ghost use Rattle.norm_settings.specs.Settings.{plain_settings, AreInRange};
-ghost use Rattle.reassembly.specs.Assemblies.{last_time};
-ghost use Rattle.reassembly.specs.Pieces.{fragment_of, IsPiece};
+ghost use Rattle.norm_settings.specs.SettingValues.{plain_settings, AreInRange};
+ghost use Rattle.reassembly.specs.AssemblyState.{last_time};
+ghost use Rattle.reassembly.specs.DatagramFragments.{fragment_of, IsPiece};
 ghost use Rattle.wire_base.specs.declared.limits.TheConstants.{MAX_PAYLOAD};
 
 use arrayvec::ArrayVec;

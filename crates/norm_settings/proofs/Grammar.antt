@@ -1,7 +1,7 @@
 -- Words are read as a line, at once or one by one, exactly if they are written as one.
 use Rattle.std.proofs.Common.{◌≡◌, ◌≢◌, ℕ, ◌==◌, Bool, true, false, List, [], ◌∷◌, ◌++◌, Option, Some, None, option_map, Bor, refl, sym, ap, ◌∙◌, if◌then◌else◌, ◌&&◌, codes, append-nil, append_assoc, subst, rules, MatchOption, eq-eqb, eqb-true}
-use Rattle.norm_settings.specs.Line.{after_front, Word, names, alone, joined, parted, unknown, word_by, word_as, word_in, word_of, option_in, begins_with_dash, PlainUse, PlainLine, may_use, next_word, with_use, parts, are_fit, fit_line, line_of}
-use Rattle.norm_settings.specs.Options.{Text, name_of, kind_of, all_choices, takes_value}
+use Rattle.norm_settings.specs.RunWords.{after_front, Word, names, alone, joined, parted, unknown, word_by, word_as, word_in, word_of, option_in, begins_with_dash, PlainUse, PlainLine, may_use, next_word, with_use, parts, are_fit, fit_line, line_of}
+use Rattle.norm_settings.specs.OptionTable.{Text, name_of, kind_of, all_choices, takes_value}
 use Rattle.norm_settings.specs.declared.options.Choice.{Choice}
 use Rattle.norm_settings.specs.Grammar.{IsWritten, by_sign, by_word, by_name, IsLine, BeginPlain, IsWrittenAs}
 use Rattle.norm_settings.specs.declared.options.Choice.TheVariants.{Hops}

@@ -1,5 +1,5 @@
 pub mod Grammar
-pub mod Steps
+pub mod OptionSteps
 pub mod Runs
 pub mod Rows
 pub mod Walks

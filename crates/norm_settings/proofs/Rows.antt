@@ -6,14 +6,14 @@ use Rattle.clap.specs.declared.parser.matches.ValueSource.TheVariants.{CommandLi
 use Rattle.clap.specs.declared.parser.matches.ValueSource.{ValueSource}
 use Rattle.clap.specs.Walk.{Row, at_row, without, with_values, more_values, settled_rows, used, used_by_id, reading_by}
 use Rattle.clap.specs.Simple.{filled}
-use Rattle.norm_settings.specs.Options.{Text, name_of, kind_of}
-use Rattle.norm_settings.specs.Line.{PlainUse, given}
+use Rattle.norm_settings.specs.OptionTable.{Text, name_of, kind_of}
+use Rattle.norm_settings.specs.RunWords.{PlainUse, given}
 use Rattle.norm_settings.specs.declared.options.Choice.{Choice}
 use Rattle.norm_settings.specs.declared.options.Choice.TheVariants.{Hops}
-use Rattle.norm_settings.specs.Found.{rule_by}
+use Rattle.norm_settings.specs.working.ClapCommands.{rule_by}
 use Rattle.norm_settings.specs.declared.options.Kind.{Kind}
 use Rattle.norm_settings.specs.declared.options.Kind.TheVariants.{Alone}
-use Rattle.norm_settings.proofs.Steps.{same_bytes, bytes_self, run_rules, rule, has}
+use Rattle.norm_settings.proofs.OptionSteps.{same_bytes, bytes_self, run_rules, rule, has}
 
 abbrev values_of : Option Row → Option (List Text)
 values_of = option_map (λ r. r.values)

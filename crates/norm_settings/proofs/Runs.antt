@@ -6,7 +6,7 @@ use Rattle.std.specs.List.{list_all, list_any}
 use Rattle.std.proofs.Math.Bool.{or-true, or-false}
 use Rattle.std.proofs.lemmas.Option.{same_Some}
 use Rattle.std.proofs.lemmas.Bool.{and_parts}
-use Rattle.wire_base.specs.declared.prefix.Prefix as wire
+use Rattle.wire_base.specs.declared.address.Prefix as wire
 use Rattle.wire_base.specs.Prefixes.{prefix_of}
 use Rattle.clap.specs.Matches.{found_of, first_value, matched_of, raw_values}
 use Rattle.clap.specs.declared.parser.matches.ArgMatches.{ArgMatches}
@@ -16,18 +16,19 @@ use Rattle.clap.specs.Walk.{Row, Rule, walk, walk_from, nothing_held, positional
 use Rattle.clap.specs.declared.parser.matches.ValueSource.TheVariants.{DefaultValue}
 use Rattle.clap.specs.declared.builder.value_parser.Reading.{Reading}
 use Rattle.clap.proofs.WalkLemmas.{first_value-rows, raw_values-rows}
-use Rattle.norm_settings.specs.Asked.{prefixes_from, run, run_of, asked_run, is_whole, PlainNames, run_by, plain_command, go_together, SettingsGoTogether}
-use Rattle.norm_settings.specs.Settings.{PlainSettings, settings_of, plain_settings, name_told, limit_told, is_told, GoTogether}
-use Rattle.norm_settings.specs.Options.{Text, name_of, kind_of, takes_value, is_name}
-use Rattle.norm_settings.specs.Line.{PlainUse, PlainLine, given, line_of}
-use Rattle.norm_settings.specs.Found.{NamesAre, run_command, value_in, TellsAs, ReadsAs}
+use Rattle.norm_settings.specs.AskedCommand.{prefixes_from, run, run_of, asked_run, is_whole, PlainNames, run_by, plain_command, go_together, SettingsGoTogether}
+use Rattle.norm_settings.specs.SettingValues.{PlainSettings, settings_of, plain_settings, name_told, limit_told, is_told, GoTogether}
+use Rattle.norm_settings.specs.OptionTable.{Text, name_of, kind_of, takes_value, is_name}
+use Rattle.norm_settings.specs.RunWords.{PlainUse, PlainLine, given, line_of}
+use Rattle.norm_settings.specs.FoundValues.{NamesAre, value_in, TellsAs, ReadsAs}
+use Rattle.norm_settings.specs.working.ClapCommands.{run_command}
 use Rattle.norm_settings.specs.declared.fault.WordFault.TheVariants.{Refused, TooMany, Same}
 use Rattle.norm_settings.specs.declared.options.Choice.TheVariants.{Inside, Mtu, Both, Hops}
 use Rattle.norm_settings.specs.declared.command.Command.{Command}
 use Rattle.norm_settings.specs.declared.command.Command.TheVariants.{Run, Load}
 use Rattle.norm_settings.specs.Grammar.{IsWrittenAs}
 use Rattle.norm_settings.specs.declared.options.Choice.{Choice}
-use Rattle.norm_settings.proofs.Steps.{shape, run_rules, at, same_bytes, bytes_self}
+use Rattle.norm_settings.proofs.OptionSteps.{same_bytes, bytes_self, shape, run_rules, at}
 use Rattle.norm_settings.proofs.Rows.{found, found_same, at_absent, values_other}
 use Rattle.norm_settings.proofs.Walks.{HasNames, whole_ends}
 

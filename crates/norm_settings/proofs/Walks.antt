@@ -13,14 +13,14 @@ use Rattle.clap.specs.Matches.{found_of}
 use Rattle.clap.specs.declared.parser.matches.ArgMatches.{ArgMatches}
 use Rattle.clap.proofs.OnLiterals.{clap_on_literals}
 use Rattle.clap.proofs.WalkLemmas.{first_value-rows}
-use Rattle.norm_settings.specs.Options.{Text, name_of, kind_of, takes_value, is_name, is_value}
-use Rattle.norm_settings.specs.Asked.{is_whole, go_together}
-use Rattle.norm_settings.specs.Found.{rule_by, load_command, is_pair, ReadsPair}
-use Rattle.norm_settings.specs.Line.{PlainUse, PlainLine, given, may_use, are_fit}
+use Rattle.norm_settings.specs.OptionTable.{Text, name_of, kind_of, takes_value, is_name, is_value}
+use Rattle.norm_settings.specs.AskedCommand.{is_whole, go_together}
+use Rattle.norm_settings.specs.working.ClapCommands.{rule_by, load_command, is_pair, ReadsPair}
+use Rattle.norm_settings.specs.RunWords.{PlainUse, PlainLine, given, may_use, are_fit}
 use Rattle.norm_settings.specs.declared.options.Kind.{Kind}
 use Rattle.norm_settings.specs.declared.options.Kind.TheVariants.{Number, Limit, Name, Alone}
 use Rattle.norm_settings.specs.Grammar.{IsWritten, by_sign, by_word, by_name, IsLine, IsWrittenAs}
-use Rattle.norm_settings.proofs.Steps.{shape, run_rules, at, rule, IsPlain, has, joined_walk, joined_turn, name_walk, name_turn, alone_walk, alone_turn, value_walk, value_turn, value_settles, input_step, output_step, prefix_step, prefix_more_step, input_passes, output_passes, prefix_passes, prefix_more_passes, input_settles, output_settles, prefix_settles}
+use Rattle.norm_settings.proofs.OptionSteps.{shape, run_rules, at, rule, IsPlain, has, joined_walk, joined_turn, name_walk, name_turn, alone_walk, alone_turn, value_walk, value_turn, value_settles, input_step, output_step, prefix_step, prefix_more_step, input_passes, output_passes, prefix_passes, prefix_more_passes, input_settles, output_settles, prefix_settles}
 use Rattle.norm_settings.proofs.Rows.{found, Agrees, agrees_added, settled_use, values_other, without_other, apart, Fresh, fresh_use, values_here, values_new, values_more}
 
 -- The walk over a whole line: it is accepted, and at its end each option has the value that the

@@ -1,7 +1,7 @@
 -- The grammar of the words of a run (this project's profile).
 use Rattle.std.specs.Prelude.{◌≡◌, List, [], ◌∷◌, ◌++◌, true, false, codes}
-use Rattle.norm_settings.specs.Options.{Text, name_of, kind_of, takes_value}
-use Rattle.norm_settings.specs.Line.{PlainUse, PlainLine, are_fit, begins_with_dash}
+use Rattle.norm_settings.specs.OptionTable.{Text, name_of, kind_of, takes_value}
+use Rattle.norm_settings.specs.RunWords.{PlainUse, PlainLine, are_fit, begins_with_dash}
 
 -- a use is written `--name=value`, `--name value`, or for an option without a value `--name`
 pub data IsWritten (u : PlainUse) (words : List Text) : Type 0 where

@@ -1,8 +1,9 @@
-pub mod Options
-pub mod Line
+pub mod OptionTable
+pub mod RunWords
 pub mod Grammar
-pub mod Settings
+pub mod SettingValues
 pub mod Side
-pub mod Faults
-pub mod Asked
-pub mod Found
+pub mod RefusalNumbers
+pub mod AskedCommand
+pub mod FoundValues
+pub mod working

@@ -1,11 +1,11 @@
 -- The side of a packet (this project's profile).
 use Rattle.std.specs.Prelude.{ℕ, not, Bool, List, Option, Some, None, if◌then◌else◌}
 use Rattle.std.specs.List.{list_any}
-use Rattle.wire_base.specs.declared.prefix.Prefix.{Prefix}
+use Rattle.wire_base.specs.declared.address.Prefix.{Prefix}
 use Rattle.wire_base.specs.declared.address.Side.{Side}
 use Rattle.wire_base.specs.declared.address.Side.TheVariants.{Inward, Outward}
 use Rattle.wire_base.specs.Prefixes.{holds}
-use Rattle.norm_settings.specs.Settings.{PlainSettings}
+use Rattle.norm_settings.specs.SettingValues.{PlainSettings}
 
 -- the address is in some prefix
 abbrev pub is_listed : List Prefix → ℕ → Bool

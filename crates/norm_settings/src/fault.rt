@@ -1,6 +1,6 @@
 //! Faults of a command line.
 ghost use Rattle.std.specs.Prelude.{◌≡◌};
-ghost use Rattle.norm_settings.specs.Faults.{number_of};
+ghost use Rattle.norm_settings.specs.RefusalNumbers.{number_of};
 ghost use Rattle.norm_settings.specs.declared.fault.WordFault.TheVariants.{NoMemory};
 
 use std::alloc::AllocError;

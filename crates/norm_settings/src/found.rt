@@ -1,8 +1,8 @@
 //! Settings from the values that clap found.
 ghost use Rattle.std.specs.Prelude.{◌≡◌, ◌≤◌, All, List, ℕ, Option, IfSome, map, option_map, length};
-ghost use Rattle.norm_settings.specs.Options.{kind_of, number_by as number_of_kind, IsWithin, IsInRange, HasStandard};
-ghost use Rattle.norm_settings.specs.Settings.{plain_settings, settings_of, number_told, limit_told, name_told, is_told, AreInRange};
-ghost use Rattle.norm_settings.specs.Found.{value_in};
+ghost use Rattle.norm_settings.specs.OptionTable.{kind_of, number_by as number_of_kind, IsWithin, IsInRange, HasStandard};
+ghost use Rattle.norm_settings.specs.SettingValues.{plain_settings, settings_of, number_told, limit_told, name_told, is_told, AreInRange};
+ghost use Rattle.norm_settings.specs.FoundValues.{value_in};
 
 use crate::line::is_value;
 use crate::{Choice, Kind, Settings, number_within};

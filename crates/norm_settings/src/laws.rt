@@ -1,7 +1,7 @@
 //! Laws over the definitions alone.
 ghost use Rattle.std.specs.Prelude.{◌≡◌, List, Some};
-ghost use Rattle.norm_settings.specs.Options.{Text, name_of};
-ghost use Rattle.norm_settings.specs.Line.{PlainLine, line_of};
+ghost use Rattle.norm_settings.specs.OptionTable.{Text, name_of};
+ghost use Rattle.norm_settings.specs.RunWords.{PlainLine, line_of};
 ghost use Rattle.norm_settings.specs.Grammar.{IsWrittenAs};
 ghost use Rattle.norm_settings.specs.declared.options.Choice.{Choice};
 

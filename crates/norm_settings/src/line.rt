@@ -1,8 +1,9 @@
 //! The words after `run`: options, each once and with a value that fits, and then the names.
 ghost use Rattle.std.specs.Prelude.{◌≡◌, ◌++◌, ◌∷◌, [], map, option_map, string_bytes, is_some, true, None, IfOk};
-ghost use Rattle.norm_settings.specs.Options.{all_choices, is_value as is_value_of};
-ghost use Rattle.norm_settings.specs.Line.{after_front as behind, word_of, word_as, word_in, plain_word, plain_use, plain_line, given, may_use};
-ghost use Rattle.norm_settings.specs.Line as spec;
+ghost use Rattle.norm_settings.specs.OptionTable.{all_choices, is_value as is_value_of};
+ghost use Rattle.norm_settings.specs.RunWords.{after_front as behind, word_of, word_as, word_in, given, may_use};
+ghost use Rattle.norm_settings.specs.working.PlainLines.{plain_word, plain_use, plain_line};
+ghost use Rattle.norm_settings.specs.RunWords as spec;
 
 use crate::{Choice, Kind, number_within};
 use std::alloc::{AllocError, Global};

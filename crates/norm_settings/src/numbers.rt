@@ -1,6 +1,6 @@
 //! Numbers among the words: 1 to 20 decimal digits, leading zeros allowed.
 ghost use Rattle.std.specs.Prelude.{◌≡◌};
-ghost use Rattle.norm_settings.specs.Options.{number_within as number_that_is_within};
+ghost use Rattle.norm_settings.specs.OptionTable.{number_within as number_that_is_within};
 
 use wire_base::read_number;
 

@@ -1,6 +1,6 @@
 //! The table of the options of a run.
 ghost use Rattle.std.specs.Prelude.{◌≡◌};
-ghost use Rattle.norm_settings.specs.Options.{name_of, kind_of, all_choices, standard_of as standard_of_kind, IsInRange, HasStandard};
+ghost use Rattle.norm_settings.specs.OptionTable.{name_of, kind_of, all_choices, standard_of as standard_of_kind, IsInRange, HasStandard};
 
 use wire_base::MAX_PACKET;
 

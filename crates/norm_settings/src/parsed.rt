@@ -3,11 +3,12 @@ ghost use Rattle.std.specs.Prelude.{◌≡◌, ◌++◌, ◌∷◌, [], IfOk, If
 ghost use Rattle.clap.specs.Values.{kind_of};
 ghost use Rattle.clap.specs.Walk.{rule_of};
 ghost use Rattle.clap.specs.Simple.{app_of, with_rule};
-ghost use Rattle.norm_settings.specs.Line.{PlainLine, line_of};
-ghost use Rattle.norm_settings.specs.Asked.{is_whole};
-ghost use Rattle.norm_settings.specs.Options.{all_choices};
-ghost use Rattle.norm_settings.specs.Found.{is_pair};
-ghost use Rattle.norm_settings.specs.Found as spec;
+ghost use Rattle.norm_settings.specs.RunWords.{PlainLine, line_of};
+ghost use Rattle.norm_settings.specs.AskedCommand.{is_whole};
+ghost use Rattle.norm_settings.specs.OptionTable.{all_choices};
+ghost use Rattle.norm_settings.specs.working.ClapCommands.{is_pair};
+ghost use Rattle.norm_settings.specs.FoundValues as spec;
+ghost use Rattle.norm_settings.specs.working.ClapCommands as working;
 
 use crate::laws::lines_are_those_written;
 use crate::{Choice, Kind};
@@ -32,7 +33,7 @@ pub fn run_matches<'a>(alloc: Global, words: &'a [String]) -> Result<ArgMatches<
 /// Parses the words after `load` with clap.
 pub(crate) fn load_matches<'a>(alloc: Global, words: &'a [String]) -> Result<ArgMatches<'a>, Error>
     // Of two names, clap finds both.
-    ensures ok { IfOk result (λ matches. is_pair (map string_bytes words.entry.now) ≡ true → spec.ReadsPair matches (map string_bytes words.entry.now)) }
+    ensures ok { IfOk result (λ matches. is_pair (map string_bytes words.entry.now) ≡ true → working.ReadsPair matches (map string_bytes words.entry.now)) }
     // It refuses a line of two names only if memory could not be allocated.
     ensures err { IfErr result (λ error. is_pair (map string_bytes words.entry.now) ≡ true → kind_of error ≡ ErrorKind.OutOfMemory) }
 {
@@ -44,7 +45,7 @@ pub(crate) fn load_matches<'a>(alloc: Global, words: &'a [String]) -> Result<Arg
 
 // Returns the clap command of a load: SEED and COUNT.
 fn load_command<'a>(alloc: Global) -> Result<Command<'a>, AllocError>
-    ensures { IfOk result (λ command. app_of command ≡ spec.load_command) }
+    ensures { IfOk result (λ command. app_of command ≡ working.load_command) }
 {
     let seed = Arg::new(alloc, "seed");
     let count = Arg::new(alloc, "count");
@@ -55,7 +56,7 @@ fn load_command<'a>(alloc: Global) -> Result<Command<'a>, AllocError>
 
 // Returns the clap command of a run: an argument for each option, and then the names.
 fn run_command<'a>(alloc: Global) -> Result<Command<'a>, AllocError>
-    ensures { IfOk result (λ command. app_of command ≡ spec.run_command) }
+    ensures { IfOk result (λ command. app_of command ≡ working.run_command) }
 {
     let input = Arg::new(alloc, "in");
     let output = Arg::new(alloc, "out");
@@ -69,7 +70,7 @@ fn run_command<'a>(alloc: Global) -> Result<Command<'a>, AllocError>
 
 // Returns the clap command of a run with an argument for each option.
 fn option_command<'a>(alloc: Global) -> Result<Command<'a>, AllocError>
-    ensures { IfOk result (λ command. app_of command ≡ fold with_rule spec.bare (map spec.rule_for all_choices)) }
+    ensures { IfOk result (λ command. app_of command ≡ fold with_rule working.bare (map working.rule_for all_choices)) }
 {
     let mut command = bare_command(alloc);
     for choice in Choice::all() {
@@ -81,7 +82,7 @@ fn option_command<'a>(alloc: Global) -> Result<Command<'a>, AllocError>
 
 // Returns the clap command without arguments.
 fn bare_command<'a>(alloc: Global) -> Command<'a>
-    ensures { app_of result ≡ spec.bare }
+    ensures { app_of result ≡ working.bare }
 {
     Command::new(alloc, "norm")
         .no_binary_name(true)
@@ -91,7 +92,7 @@ fn bare_command<'a>(alloc: Global) -> Command<'a>
 
 // Returns the clap argument of an option of this name and kind.
 fn option_argument<'a>(alloc: Global, name: &'a str, kind: Kind) -> Arg<'a>
-    ensures rule { rule_of result ≡ spec.rule_by kind name.entry.now }
+    ensures rule { rule_of result ≡ working.rule_by kind name.entry.now }
     ensures local { result.global ≡ false }
 {
     let argument = Arg::new(alloc, name).long(name);

@@ -1,6 +1,6 @@
 //! The settings of a run.
 ghost use Rattle.std.specs.Prelude.{◌≡◌, option_map};
-ghost use Rattle.norm_settings.specs.Settings.{plain_settings, standard};
+ghost use Rattle.norm_settings.specs.SettingValues.{plain_settings, standard};
 
 use crate::Choice;
 use arrayvec::ArrayVec;

@@ -1,6 +1,6 @@
 //! The side of a packet.
 ghost use Rattle.std.specs.Prelude.{◌≡◌, ◌≤◌, All, None};
-ghost use Rattle.norm_settings.specs.Settings.{plain_settings};
+ghost use Rattle.norm_settings.specs.SettingValues.{plain_settings};
 ghost use Rattle.norm_settings.specs.Side.{is_listed, side};
 
 use crate::Settings;

@@ -3,12 +3,13 @@ ghost use Rattle.std.specs.Prelude.{◌≡◌, ◌≤◌, ◌⊎◌, All, ℕ, L
 ghost use Rattle.std.specs.List.{list_all};
 ghost use Rattle.clap.specs.Values.{kind_of};
 ghost use Rattle.clap.specs.Matches.{found_of, first_value};
-ghost use Rattle.norm_settings.specs.Line.{PlainLine, plain_use, plain_line};
-ghost use Rattle.norm_settings.specs.Line as spec;
-ghost use Rattle.norm_settings.specs.Asked.{asked, asked_run, asked_load, run_of, prefixes_from, plain_command, SettingsAreInRange, SettingsGoTogether};
-ghost use Rattle.norm_settings.specs.Asked.{is_whole as is_whole_line, go_together as do_go_together};
-ghost use Rattle.norm_settings.specs.Options.{Text, is_name as is_name_of, number_within as number_of_word};
-ghost use Rattle.norm_settings.specs.Found.{ReadsAs, ReadsPair, is_pair as is_pair_of};
+ghost use Rattle.norm_settings.specs.RunWords.{PlainLine};
+ghost use Rattle.norm_settings.specs.working.PlainLines.{plain_use, plain_line};
+ghost use Rattle.norm_settings.specs.RunWords as spec;
+ghost use Rattle.norm_settings.specs.AskedCommand.{asked, asked_run, asked_load, run_of, prefixes_from, plain_command, SettingsAreInRange, SettingsGoTogether, is_whole as is_whole_line, go_together as do_go_together};
+ghost use Rattle.norm_settings.specs.OptionTable.{Text, is_name as is_name_of, number_within as number_of_word};
+ghost use Rattle.norm_settings.specs.FoundValues.{ReadsAs};
+ghost use Rattle.norm_settings.specs.working.ClapCommands.{ReadsPair, is_pair as is_pair_of};
 
 use crate::found::settings_found;
 use crate::line::{Line, Use, is_given, line_of};

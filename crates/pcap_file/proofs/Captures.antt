@@ -3,13 +3,13 @@ use Rattle.std.proofs.Common.{◌≡◌, ℕ, ◌<◌, List, [], ◌∷◌, leng
 use Rattle.std.proofs.lemmas.Bool.{cases_lt}
 use Rattle.std.proofs.lemmas.Bool.Decides.{eqb_tells}
 use Rattle.std.proofs.lemmas.List.{length-take-le, length-drop, nil_from_length}
-use Rattle.pcap_file.specs.declared.order.Order.{Order}
+use Rattle.pcap_file.specs.declared.record.Order.{Order}
 use Rattle.pcap_file.specs.declared.head.Head.{Head}
 use Rattle.pcap_file.specs.Flaws.{Flaw, cut_short, too_long, too_many}
-use Rattle.pcap_file.specs.Heads.{head_of}
+use Rattle.pcap_file.specs.FileHead.{head_of}
 use Rattle.pcap_file.specs.Records.{Packet, front_of, sized_at, packet_of, captured}
 use Rattle.pcap_file.specs.Capture.{ReadsTo, FailsBehindHead, offset_of, EndsWell, EndsBadly}
-use Rattle.pcap_file.specs.Laws.{CaptureIsOne, FlawIsOne, FlawExcludesEnd, EachFileEnds}
+use Rattle.pcap_file.specs.FileLaws.{CaptureIsOne, FlawIsOne, FlawExcludesEnd, EachFileEnds}
 use Rattle.pcap_file.proofs.Records.{front_short, front_sized, sized_long, sized_many, sized_cut, sized_record}
 
 -- Octets have at most one head, one list of records and one end, which is that of a capture or a

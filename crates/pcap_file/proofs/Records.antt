@@ -6,21 +6,22 @@ use Rattle.std.proofs.lemmas.Bool.Decides.{nat_tests}
 use Rattle.std.proofs.KnownBytes.{Consumes-trans}
 use Rattle.std.specs.Io.KnownBytes.{Consumes, IsAtEnd}
 use Rattle.std.proofs.lemmas.Nat.{from_le_bytes-to_le_bytes_4, from_be_bytes-to_be_bytes_4}
-use Rattle.edge_io.specs.Octets.{TakesFewer}
+use Rattle.edge_io.specs.KnownOctets.{TakesFewer}
 use Rattle.wire_base.specs.declared.address.Link.{Link}
 use Rattle.wire_base.specs.declared.address.Link.TheVariants.{Ethernet, Raw}
-use Rattle.pcap_file.specs.declared.order.Order.{Order}
-use Rattle.pcap_file.specs.declared.order.Order.TheVariants.{Little, Big}
-use Rattle.pcap_file.specs.Numbers.{u16_at, u32_at}
+use Rattle.pcap_file.specs.declared.record.Order.{Order}
+use Rattle.pcap_file.specs.declared.record.Order.TheVariants.{Little, Big}
+use Rattle.pcap_file.specs.FileNumbers.{u16_at, u32_at}
 use Rattle.pcap_file.specs.Flaws.{cut_short, too_long, too_many, Flaw}
 use Rattle.pcap_file.specs.Records.{Packet, front_of, sized_at, packet_of, captured, record_head}
-use Rattle.pcap_file.specs.Reads.{Leaves, HasFlaw, TakesAtMost, TakesPart, StopsAt}
+use Rattle.pcap_file.specs.RecordReading.{Leaves, HasFlaw, TakesAtMost, TakesPart, StopsAt}
 use Rattle.pcap_file.specs.declared.head.Head.{Head}
 use Rattle.pcap_file.specs.declared.head.HeadFault.{HeadFault}
 use Rattle.pcap_file.specs.declared.head.HeadFault.TheVariants as faults
-use Rattle.pcap_file.specs.Heads.{head_of, head_by, form_of, head_octets}
-use Rattle.pcap_file.specs.ReadsHead.{Begins, Judges, ReadsHead}
-use Rattle.pcap_file.specs.Laws.{HeadIsReadBack, RecordIsReadBack}
+use Rattle.pcap_file.specs.FileHead.{head_of, head_by, form_of, head_octets}
+use Rattle.pcap_file.specs.HeadReading.{Begins, ReadsHead}
+use Rattle.pcap_file.specs.working.HeadParsing.{Judges}
+use Rattle.pcap_file.specs.FileLaws.{HeadIsReadBack, RecordIsReadBack}
 
 -- What octets of two reads begin with: a record's head of 16 octets, and its captured octets.
 

@@ -1,10 +1,10 @@
 -- A capture file as a whole (classic pcap): a head, a list of records, and the end or a first flaw
 -- at an offset.
 use Rattle.std.specs.Prelude.{◌≡◌, ◌⊎◌, ℕ, ◌+◌, List, [], ◌∷◌, length, drop, Some, Ok, Err}
-use Rattle.pcap_file.specs.declared.order.Order.{Order}
+use Rattle.pcap_file.specs.declared.record.Order.{Order}
 use Rattle.pcap_file.specs.declared.head.Head.{Head}
 use Rattle.pcap_file.specs.Flaws.{Flaw}
-use Rattle.pcap_file.specs.Heads.{head_of}
+use Rattle.pcap_file.specs.FileHead.{head_of}
 use Rattle.pcap_file.specs.Records.{Packet, front_of}
 
 -- All the octets after the head are these records, the newest first, and then `rest`.

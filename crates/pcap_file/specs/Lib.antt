@@ -1,9 +1,10 @@
-pub mod Numbers
+pub mod FileNumbers
 pub mod Flaws
-pub mod Heads
+pub mod FileHead
 pub mod Records
 pub mod Capture
-pub mod Laws
-pub mod ReadsHead
-pub mod Reading
-pub mod Reads
+pub mod FileLaws
+pub mod HeadReading
+pub mod ReaderState
+pub mod RecordReading
+pub mod working

@@ -2,8 +2,8 @@
 -- original length, then the captured octets.
 use Rattle.std.specs.Prelude.{ℕ, ◌+◌, ◌==◌, nat_lt, List, ◌++◌, length, take, drop, Option, Some, None, Result, Ok, Err, if◌then◌else◌}
 use Rattle.wire_base.specs.declared.address.Side.{Side}
-use Rattle.pcap_file.specs.declared.order.Order.{Order}
-use Rattle.pcap_file.specs.Numbers.{u32_at, u32_octets}
+use Rattle.pcap_file.specs.declared.record.Order.{Order}
+use Rattle.pcap_file.specs.FileNumbers.{u32_at, u32_octets}
 use Rattle.pcap_file.specs.Flaws.{Flaw, cut_short, too_long, too_many}
 use Rattle.wire_base.specs.declared.limits.TheConstants.{MAX_CAPTURED}
 

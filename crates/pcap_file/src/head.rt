@@ -1,8 +1,9 @@
 //! The head of a capture file.
 ghost use Rattle.std.specs.Prelude.{◌≡◌, ◌≤◌, length, IsErrOf};
-ghost use Rattle.edge_io.specs.Faults.{Rose};
-ghost use Rattle.pcap_file.specs.Heads as heads;
-ghost use Rattle.pcap_file.specs.ReadsHead.{ReadsHead, KeepsCount, Judges};
+ghost use Rattle.edge_io.specs.FaultCounts.{Rose};
+ghost use Rattle.pcap_file.specs.FileHead as heads;
+ghost use Rattle.pcap_file.specs.HeadReading.{ReadsHead, KeepsCount};
+ghost use Rattle.pcap_file.specs.working.HeadParsing.{Judges};
 
 use crate::Order;
 use edge_io::{Failed, Source, read_full};
@@ -90,7 +91,7 @@ fn form_of(octets: &[u8]) -> Option<(Order, bool)>
 }
 
 // Parses the 24 octets of a head.
-#[tactic(auto, unfolding(crate::specs::Heads::head_of))]
+#[tactic(auto, unfolding(crate::specs::FileHead::head_of))]
 fn judge(octets: &[u8]) -> Result<Head, HeadFault>
     requires { length octets.now ≡ 24 }
     ensures { Judges octets.now result }

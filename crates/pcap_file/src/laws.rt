@@ -1,5 +1,5 @@
 //! Laws over definitions.
-ghost use Rattle.pcap_file.specs.Laws.{HeadIsReadBack, RecordIsReadBack, CaptureIsOne, FlawIsOne, FlawExcludesEnd, EachFileEnds};
+ghost use Rattle.pcap_file.specs.FileLaws.{HeadIsReadBack, RecordIsReadBack, CaptureIsOne, FlawIsOne, FlawExcludesEnd, EachFileEnds};
 
 /// States that what `write_head` appends is read as that head.
 pub fn head_is_read_back()

@@ -10,13 +10,11 @@
 
 pub mod head;
 pub mod laws;
-pub mod order;
 pub mod reader;
 pub mod record;
 pub mod writer;
 
 pub use head::{Head, HeadFault, read_head};
-pub use order::Order;
 pub use reader::{Reader, RecordFault};
-pub use record::Record;
+pub use record::{Order, Record};
 pub use writer::{WriteFault, write_head, write_record};

@@ -1,7 +1,7 @@
 //! Reads the records of a capture file one by one.
 ghost use Rattle.std.specs.Prelude.{◌≡◌, ◌≤◌, length, true, IsErrOf};
-ghost use Rattle.edge_io.specs.Faults.{Rose};
-ghost use Rattle.pcap_file.specs.Reads.{Reads, KeepsCount, is_record, IfRecord, IfNoRecord, Advances, Stays};
+ghost use Rattle.edge_io.specs.FaultCounts.{Rose};
+ghost use Rattle.pcap_file.specs.RecordReading.{Reads, KeepsCount, is_record, IfRecord, IfNoRecord, Advances, Stays};
 ghost use Rattle.wire_base.specs.declared.limits.TheConstants.{MAX_CAPTURED};
 
 use crate::{Head, Record};
@@ -49,7 +49,7 @@ pub struct Reader {
 
 impl Model for Reader {
     ghost use Rattle.std.specs.Prelude.{◌≤◌, ◌+◌, ◌*◌};
-    ghost use Rattle.pcap_file.specs.Reading.{Reading};
+    ghost use Rattle.pcap_file.specs.ReaderState.{Reading};
     ghost use Rattle.wire_base.specs.declared.limits.TheConstants.{MAX_CAPTURED};
 
     ghost Value = { Reading };

@@ -1,6 +1,8 @@
-//! A record of a capture file.
-ghost use Rattle.std.specs.Prelude.{◌≡◌, None};
+//! A record of a capture file, and the byte order of the numbers in the file.
+ghost use Rattle.std.specs.Prelude.{◌≡◌, None, ◌+◌, ◌≤◌, length};
+ghost use Rattle.pcap_file.specs.FileNumbers as numbers;
 
+use byteorder::{BigEndian, ByteOrder, LittleEndian};
 use wire_base::Side;
 
 /// A record, whose octets are in the caller's buffer.
@@ -21,7 +23,7 @@ pub struct Record<'a> {
 }
 
 impl<'a> Record<'a> {
-    ghost use Rattle.pcap_file.specs.Reads.{shown};
+    ghost use Rattle.pcap_file.specs.RecordReading.{shown};
 
     /// Returns a record of these octets, without a side.
     pub fn new(
@@ -42,5 +44,59 @@ impl<'a> Record<'a> {
             side: None,
             bytes,
         }
+    }
+}
+
+/// The byte order of each number in a file: least significant octet first, or most significant.
+#[derive(Clone, Copy, Debug, PartialEq, Eq)]
+pub enum Order {
+    Little,
+    Big,
+}
+
+impl Order {
+    /// Returns the 16-bit number at offset `at`.
+    pub(crate) fn u16_at(self, bytes: &[u8], at: usize) -> u16
+        requires { at + 2 ≤ length bytes.now }
+        ensures { result ≡ numbers.u16_at self bytes.now at }
+    {
+        match self {
+            Order::Little => LittleEndian::read_u16(&bytes[at..]),
+            Order::Big => BigEndian::read_u16(&bytes[at..]),
+        }
+    }
+
+    /// Returns the 32-bit number at offset `at`.
+    pub(crate) fn u32_at(self, bytes: &[u8], at: usize) -> u32
+        requires { at + 4 ≤ length bytes.now }
+        ensures { result ≡ numbers.u32_at self bytes.now at }
+    {
+        match self {
+            Order::Little => LittleEndian::read_u32(&bytes[at..]),
+            Order::Big => BigEndian::read_u32(&bytes[at..]),
+        }
+    }
+
+    /// Returns the two octets of a number.
+    pub(crate) fn u16_octets(self, number: u16) -> [u8; 2]
+        ensures { result ≡ numbers.u16_octets self number }
+    {
+        match self {
+            Order::Little => number.to_le_bytes(),
+            Order::Big => number.to_be_bytes(),
+        }
+    }
+
+    /// Returns the four octets of a number.
+    pub(crate) fn u32_octets(self, number: u32) -> [u8; 4]
+        ensures { result ≡ numbers.u32_octets self number }
+    {
+        // The match chooses between numbers and not between arrays, so that the octets are one
+        // store.
+        let stored = match self {
+            Order::Little => number,
+            Order::Big => number.swap_bytes(),
+        };
+        stored.to_le_bytes()
     }
 }

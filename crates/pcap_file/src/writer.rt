@@ -1,8 +1,8 @@
 //! Writes the head and the records of a capture file.
 ghost use Rattle.std.specs.Prelude.{◌≡◌, ◌≤◌, length};
-ghost use Rattle.edge_io.specs.Faults.{HasCause};
-ghost use Rattle.edge_io.specs.Octets.{Puts};
-ghost use Rattle.pcap_file.specs.Heads as heads;
+ghost use Rattle.edge_io.specs.FaultCounts.{HasCause};
+ghost use Rattle.edge_io.specs.KnownOctets.{Puts};
+ghost use Rattle.pcap_file.specs.FileHead as heads;
 ghost use Rattle.pcap_file.specs.Records as records;
 ghost use Rattle.wire_base.specs.declared.limits.TheConstants.{MAX_CAPTURED};
 
@@ -24,7 +24,7 @@ impl From<Failed> for WriteFault {
 }
 
 // Returns the 24 octets of a head.
-#[tactic(auto, unfolding(crate::specs::Heads::head_octets))]
+#[tactic(auto, unfolding(crate::specs::FileHead::head_octets))]
 fn head_octets(head: &Head) -> [u8; 24]
     ensures { result ≡ heads.head_octets head.now }
 {

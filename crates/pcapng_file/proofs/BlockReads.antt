@@ -6,8 +6,8 @@ use Rattle.std.proofs.Math.Seq.{take-append-add}
 use borrow.Rule.Slice.PartMut.{put_mid}
 use Rattle.std.proofs.KnownBytes.{Consumes-trans, Consumes-nil}
 use Rattle.std.specs.Io.KnownBytes.{Consumes, prepend_known}
-use Rattle.edge_io.specs.Octets.{TakesFewer}
-use Rattle.pcap_file.specs.declared.order.Order.{Order}
+use Rattle.edge_io.specs.KnownOctets.{TakesFewer}
+use Rattle.pcap_file.specs.declared.record.Order.{Order}
 use Rattle.wire_base.specs.declared.address.Link.{Link}
 use Rattle.pcap_file.specs.Records.{Packet}
 use Rattle.pcapng_file.specs.declared.fault.NgFault.{NgFault}
@@ -15,14 +15,17 @@ use Rattle.pcapng_file.specs.declared.fault.NgFault.TheVariants as faults
 use Rattle.pcapng_file.specs.declared.content.Stamp.{Stamp}
 use Rattle.pcapng_file.specs.declared.content.Content.TheVariants as says
 use Rattle.pcapng_file.specs.declared.content.Found.TheVariants as is
-use Rattle.pcapng_file.specs.Reads.{TakesBody, IsKept, IsGiven, TakesBlock, TakesSteps, Moves, LooksAt, Halts, Looks, LooksOn, LooksStopped, EndsHere, Stops, TakesPacket, HaltsBehind, OpensAt, FailsAhead}
-use Rattle.pcapng_file.specs.Takes.{Short, TakesCount}
+use Rattle.pcapng_file.specs.working.BlockReading.{TakesBody, IsKept, IsGiven, TakesBlock, LooksAt, Halts, Looks, LooksOn, LooksStopped}
+use Rattle.pcapng_file.specs.RecordReading.{TakesSteps, Moves, EndsHere, Stops, TakesPacket, HaltsBehind, OpensAt, FailsAhead}
+use Rattle.pcapng_file.specs.working.PartReading.{Short, TakesCount}
 use Rattle.pcapng_file.specs.declared.fault.OpenFault.{OpenFault}
 use Rattle.pcapng_file.specs.declared.content.Found.{Found}
-use Rattle.pcapng_file.specs.Standing.{Sections, counted, no_section}
-use Rattle.pcapng_file.specs.Blocks.{Step, block_at, step_of, whole_step, after_found, given_by, packet_of, before, end_by, IsPacket}
+use Rattle.pcapng_file.specs.SectionState.{Sections, counted, no_section}
+use Rattle.pcapng_file.specs.Blocks.{Step, block_at, step_of, whole_step, after_found, given_by, packet_of, before, end_by}
+use Rattle.pcapng_file.specs.working.BlockFronts.{IsPacket}
 use Rattle.pcapng_file.specs.Sections.{Walks, behind, packets_of, size_of, size_before, with_given, EndsAtInterface}
-use Rattle.pcapng_file.specs.Reading.{NgReading, first_reading, IsUnlinked}
+use Rattle.pcapng_file.specs.ReaderState.{NgReading, first_reading}
+use Rattle.pcapng_file.specs.working.SectionLinks.{IsUnlinked}
 use Rattle.pcapng_file.proofs.Fronts.{at_nothing}
 
 -- The octets taken by several reads, one after the other.

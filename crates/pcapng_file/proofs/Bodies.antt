@@ -6,8 +6,8 @@ use borrow.Rule.Slice.PartMut.{put_mid}
 use Rattle.std.proofs.KnownBytes.{Consumes-trans, Consumes-nil}
 use Rattle.std.specs.Io.KnownBytes.{Consumes, IsAtEnd}
 use Rattle.wire_base.specs.declared.address.Link.{Link}
-use Rattle.pcap_file.specs.declared.order.Order.{Order}
-use Rattle.pcap_file.specs.Numbers.{u32_at}
+use Rattle.pcap_file.specs.declared.record.Order.{Order}
+use Rattle.pcap_file.specs.FileNumbers.{u32_at}
 use Rattle.pcap_file.proofs.Records.{u32_at_front}
 use Rattle.pcapng_file.specs.declared.fault.NgFault.{NgFault}
 use Rattle.pcapng_file.specs.declared.fault.NgFault.TheVariants as faults
@@ -17,12 +17,16 @@ use Rattle.pcapng_file.specs.declared.content.Content.{Content}
 use Rattle.pcapng_file.specs.declared.content.Content.TheVariants as says
 use Rattle.pcapng_file.specs.declared.content.Found.{Found}
 use Rattle.pcapng_file.specs.declared.content.Found.TheVariants as is
-use Rattle.pcapng_file.specs.Standing.{Sections, counted}
-use Rattle.pcapng_file.specs.Options.{options_of, described}
-use Rattle.pcapng_file.specs.Contents.{section_type, interface_type, enhanced_type, simple_type, old_packet_type, more_of, content_of, found_of, interface_found, IsSound, IsTold}
-use Rattle.pcapng_file.specs.Blocks.{is_size, order_at, front_in, sized_at, block_at, end_by, told, before, step_of, bare, IsFront, IsInterface, IsPacket}
-use Rattle.pcapng_file.specs.Takes.{Short, TakesSize, is_read_fault}
-use Rattle.pcapng_file.specs.Reads.{IsBody, HasRoom, IsKept, TakesBody, TakesRest, TakesBlock, EndsHere, IsCut, Stops}
+use Rattle.pcapng_file.specs.SectionState.{Sections, counted}
+use Rattle.pcapng_file.specs.InterfaceOptions.{options_of, described}
+use Rattle.pcapng_file.specs.BlockContents.{section_type, interface_type, enhanced_type, simple_type, old_packet_type, content_of, found_of, interface_found}
+use Rattle.pcapng_file.specs.working.ContentFaults.{more_of, IsSound, IsTold}
+use Rattle.pcapng_file.specs.Blocks.{is_size, order_at, sized_at, block_at, end_by, told, before, step_of}
+use Rattle.pcapng_file.specs.working.BlockFronts.{front_in, bare, IsFront, IsInterface, IsPacket}
+use Rattle.pcapng_file.specs.working.PartReading.{Short, TakesSize}
+use Rattle.pcapng_file.specs.ReadFaults.{is_read_fault}
+use Rattle.pcapng_file.specs.working.BlockReading.{IsBody, HasRoom, IsKept, TakesBody, TakesRest, TakesBlock}
+use Rattle.pcapng_file.specs.RecordReading.{EndsHere, IsCut, Stops}
 use Rattle.pcapng_file.proofs.Contents.{content_front, content_placed, bare_found, IsPlaced}
 use Rattle.pcapng_file.proofs.Fronts.{at_front, at_nothing, at_short, front_is, is_big, most_is, sized_closed, sized_cut, sized_open, u32_behind}
 

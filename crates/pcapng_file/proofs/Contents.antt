@@ -4,19 +4,20 @@ use Rattle.std.proofs.lemmas.Bool.{cases_lt, cases_Bool, ltb-false, ltb-true, no
 use Rattle.std.proofs.lemmas.Bool.Decides.{nat_tests}
 use Rattle.std.proofs.lemmas.Option.{slice_get_within}
 use Rattle.wire_base.specs.declared.address.Link.{Link}
-use Rattle.pcap_file.specs.declared.order.Order.{Order}
-use Rattle.pcap_file.specs.Numbers.{u16_at, u32_at}
-use Rattle.pcap_file.specs.Heads.{link_of}
+use Rattle.pcap_file.specs.declared.record.Order.{Order}
+use Rattle.pcap_file.specs.FileNumbers.{u16_at, u32_at}
+use Rattle.pcap_file.specs.FileHead.{link_of}
 use Rattle.pcap_file.proofs.Records.{u16_at_front, u32_at_front}
 use Rattle.pcapng_file.specs.declared.content.Stamp.{Stamp}
 use Rattle.pcapng_file.specs.declared.content.Content.{Content}
 use Rattle.pcapng_file.specs.declared.content.Content.TheVariants as says
-use Rattle.pcapng_file.specs.Contents.{IsTold, is_link, more_of, section_type, interface_type, enhanced_type, simple_type, old_packet_type, section_says, interface_says, linked_says, enhanced_says, enhanced_of, timed_says, simple_says, simple_of, simple_sized, clipped, side_by, per_second, nanos_each, content_of, found_of}
-use Rattle.pcapng_file.specs.Standing.{Sections}
+use Rattle.pcapng_file.specs.working.ContentFaults.{IsTold, more_of}
+use Rattle.pcapng_file.specs.BlockContents.{is_link, section_type, interface_type, enhanced_type, simple_type, old_packet_type, section_says, interface_says, linked_says, enhanced_says, enhanced_of, timed_says, simple_says, simple_of, simple_sized, clipped, side_by, per_second, nanos_each, content_of, found_of}
+use Rattle.pcapng_file.specs.SectionState.{Sections}
 use Rattle.pcapng_file.specs.declared.fault.NgFault.TheVariants as faults
 use Rattle.pcapng_file.specs.declared.interface.Interface.{Interface}
-use Rattle.pcapng_file.specs.Options.{padded}
-use Rattle.pcapng_file.specs.Blocks.{bare}
+use Rattle.pcapng_file.specs.InterfaceOptions.{padded}
+use Rattle.pcapng_file.specs.working.BlockFronts.{bare}
 
 -- Where the content of a block is.
 

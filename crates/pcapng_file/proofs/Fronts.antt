@@ -3,16 +3,17 @@ use Rattle.std.proofs.Common.{◌≡◌, ◌≢◌, ℕ, ◌+◌, ◌-◌, ◌*�
 use Rattle.std.proofs.lemmas.Bool.{cases_Bool, lt-ltb, le-ltb}
 use Rattle.std.proofs.lemmas.Bool.Decides.{nat_tests}
 use Rattle.std.specs.Io.KnownBytes.{Consumes}
-use Rattle.pcap_file.specs.declared.order.Order.{Order}
-use Rattle.pcap_file.specs.declared.order.Order.TheVariants.{Little, Big}
-use Rattle.pcap_file.specs.Numbers.{u16_at, u32_at}
+use Rattle.pcap_file.specs.declared.record.Order.{Order}
+use Rattle.pcap_file.specs.declared.record.Order.TheVariants.{Little, Big}
+use Rattle.pcap_file.specs.FileNumbers.{u16_at, u32_at}
 use Rattle.pcap_file.proofs.Records.{u32_at_front}
 use Rattle.pcapng_file.specs.declared.fault.NgFault.{NgFault}
 use Rattle.pcapng_file.specs.declared.fault.NgFault.TheVariants as faults
 use Rattle.pcapng_file.specs.declared.front.Front.{Front}
-use Rattle.pcapng_file.specs.Standing.{Sections}
-use Rattle.pcapng_file.specs.Blocks.{is_size, order_at, size_at, front_in, ordered_at, sized_at, block_at, end_by, told, before, IsFront}
-use Rattle.pcapng_file.specs.Reads.{IsFaulty, Stops}
+use Rattle.pcapng_file.specs.SectionState.{Sections}
+use Rattle.pcapng_file.specs.Blocks.{is_size, order_at, size_at, ordered_at, sized_at, block_at, end_by, told, before}
+use Rattle.pcapng_file.specs.working.BlockFronts.{front_in, IsFront}
+use Rattle.pcapng_file.specs.RecordReading.{IsFaulty, Stops}
 
 -- a number after the front `p`
 u16_behind : (order : Order) (p t : List ℕ) (n k : ℕ) → n ≡ length p + k → u16_at order (p ++ t) n ≡ u16_at order t k

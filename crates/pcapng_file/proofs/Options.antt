@@ -5,15 +5,15 @@ use Rattle.std.proofs.lemmas.Bool.Decides.{nat_tests}
 use Rattle.std.proofs.lemmas.List.{length-append, length-take-le, take_at, drop_at, take-append-le}
 use Rattle.std.proofs.KnownBytes.{Consumes-trans, Consumes-nil}
 use Rattle.std.specs.Io.KnownBytes.{Consumes}
-use Rattle.pcap_file.specs.declared.order.Order.{Order}
-use Rattle.pcap_file.specs.Numbers.{u16_at}
+use Rattle.pcap_file.specs.declared.record.Order.{Order}
+use Rattle.pcap_file.specs.FileNumbers.{u16_at}
 use Rattle.pcap_file.proofs.Records.{u16_at_front}
 use Rattle.pcapng_file.specs.declared.interface.Interface.{Interface}
 use Rattle.pcapng_file.specs.declared.interface.Seen.{Seen}
-use Rattle.pcapng_file.specs.Options.{Entry, options_in, options_of, option_size, entry_at, is_end, is_named, nano_of, with_unit, described, padded}
-use Rattle.pcapng_file.specs.Seen.{seen_behind, described_by, nano_first, named_first, named_by, nano_by}
+use Rattle.pcapng_file.specs.InterfaceOptions.{Entry, options_in, options_of, option_size, entry_at, is_end, is_named, nano_of, with_unit, described, padded}
+use Rattle.pcapng_file.specs.working.OptionFacts.{seen_behind, described_by, nano_first, named_first, named_by, nano_by}
 use Rattle.pcapng_file.specs.declared.fault.NgFault.{NgFault}
-use Rattle.pcapng_file.specs.Takes.{Short, TakesCount, TakesOptions, Passes, ReadsValue}
+use Rattle.pcapng_file.specs.working.PartReading.{Short, TakesCount, TakesOptions, Passes, ReadsValue}
 use Rattle.pcapng_file.proofs.BlockReads.{short_behind}
 
 -- The options of an area, one by one.

@@ -5,22 +5,22 @@ use Rattle.std.proofs.lemmas.Bool.Decides.{eqb_tells}
 use Rattle.std.proofs.lemmas.List.{nil_from_length}
 use Rattle.wire_base.specs.declared.address.Link.{Link}
 use Rattle.wire_base.specs.declared.address.Link.TheVariants.{Ethernet, Raw}
-use Rattle.pcap_file.specs.declared.order.Order.{Order}
-use Rattle.pcap_file.specs.Numbers.{u32_at}
+use Rattle.pcap_file.specs.declared.record.Order.{Order}
+use Rattle.pcap_file.specs.FileNumbers.{u32_at}
 use Rattle.pcap_file.specs.Records.{Packet}
 use Rattle.pcapng_file.specs.declared.fault.NgFault.{NgFault}
-use Rattle.pcapng_file.specs.Standing.{Sections, no_section, counted}
+use Rattle.pcapng_file.specs.SectionState.{Sections, no_section, counted}
 use Rattle.pcapng_file.specs.Blocks.{Step, block_at, is_size, order_at, ordered_at, sized_at, end_by, told, before, after_found, step_of, whole_step}
 use Rattle.pcapng_file.specs.Sections.{Walks, behind, size_of, packets_of, with_given, EndsWell, EndsBadly}
-use Rattle.pcapng_file.specs.Laws.{SectionsAreOne, FaultIsOne, FaultExcludesEnd, EachFileEnds, LinkStays, WalksOn}
+use Rattle.pcapng_file.specs.FileLaws.{SectionsAreOne, FaultIsOne, FaultExcludesEnd, EachFileEnds, LinkStays, WalksOn}
 use Rattle.pcapng_file.specs.declared.fault.NgFault.TheVariants as faults
 use Rattle.pcapng_file.specs.declared.interface.Interface.{Interface}
 use Rattle.pcapng_file.specs.declared.content.Content.{Content}
 use Rattle.pcapng_file.specs.declared.content.Content.TheVariants as says
 use Rattle.pcapng_file.specs.declared.content.Found.{Found}
 use Rattle.pcapng_file.specs.declared.content.Found.TheVariants as is
-use Rattle.pcapng_file.specs.Options.{options_of, described}
-use Rattle.pcapng_file.specs.Contents.{is_link, interface_found, found_of, content_of}
+use Rattle.pcapng_file.specs.InterfaceOptions.{options_of, described}
+use Rattle.pcapng_file.specs.BlockContents.{is_link, interface_found, found_of, content_of}
 use Rattle.pcapng_file.proofs.Contents.{content_placed, IsPlaced}
 use Rattle.pcapng_file.proofs.BlockReads.{blocks_after}
 use Rattle.pcapng_file.proofs.Fronts.{at_nothing, at_short, at_many, at_ordered, sized_cut, sized_open, sized_closed, is_big}

@@ -1,19 +1,18 @@
 -- The block at the front of the octets (pcapng): its type, its size, its content, and its size
 -- again.
-use Rattle.std.specs.Prelude.{ℕ, ◌≡◌, true, ◌-◌, ◌%◌, ◌==◌, ◌&&◌, not, nat_lt, Bool, List, [], ◌∷◌, ◌++◌, length, take, drop, Option, Some, None, Result, Ok, Err, if◌then◌else◌}
+use Rattle.std.specs.Prelude.{ℕ, ◌-◌, ◌%◌, ◌==◌, ◌&&◌, not, nat_lt, Bool, List, [], ◌∷◌, ◌++◌, length, take, drop, Option, Some, None, Result, Ok, Err, if◌then◌else◌}
 use Rattle.wire_base.specs.declared.address.Link.{Link}
-use Rattle.pcap_file.specs.declared.order.Order.{Order}
-use Rattle.pcap_file.specs.declared.order.Order.TheVariants.{Little, Big}
-use Rattle.pcap_file.specs.Numbers.{u32_at}
+use Rattle.pcap_file.specs.declared.record.Order.{Order}
+use Rattle.pcap_file.specs.declared.record.Order.TheVariants.{Little, Big}
+use Rattle.pcap_file.specs.FileNumbers.{u32_at}
 use Rattle.pcap_file.specs.Records.{Packet}
 use Rattle.pcapng_file.specs.declared.fault.NgFault.{NgFault}
 use Rattle.pcapng_file.specs.declared.fault.NgFault.TheVariants as faults
-use Rattle.pcapng_file.specs.declared.front.Front.{Front}
 use Rattle.pcapng_file.specs.declared.content.Stamp.{Stamp}
 use Rattle.pcapng_file.specs.declared.content.Found.{Found}
 use Rattle.pcapng_file.specs.declared.content.Found.TheVariants as is
-use Rattle.pcapng_file.specs.Standing.{Sections, counted}
-use Rattle.pcapng_file.specs.Contents.{section_type, interface_type, enhanced_type, simple_type, old_packet_type, content_of, found_of}
+use Rattle.pcapng_file.specs.SectionState.{Sections, counted}
+use Rattle.pcapng_file.specs.BlockContents.{section_type, content_of, found_of}
 
 -- One block: the state of the file after it, its record if it is a packet block, and its number of
 -- octets.
@@ -27,16 +26,6 @@ pub record Step : Type 0 where
 abbrev pub packet_of : Stamp → List ℕ → Packet
 packet_of stamp octets =
     record { seconds = stamp.seconds; fraction = stamp.fraction; original = stamp.original; side = stamp.side; octets = octets }
-
--- a block that describes an interface
-abbrev pub IsInterface : Found → Type 0
-IsInterface (is.Interface link interface) = Unit {0}
-IsInterface _ = ⊥
-
--- a packet block
-abbrev pub IsPacket : Found → Type 0
-IsPacket (is.Packet stamp) = Unit {0}
-IsPacket _ = ⊥
 
 -- the state of the file after a block; a section block removes all interfaces
 abbrev pub after_found : Sections → Order → Found → Sections
@@ -65,16 +54,6 @@ step_of sections order size block is.Passed = Ok (whole_step sections order size
 step_of sections order size block is.Section = Ok (whole_step sections order size block is.Section)
 step_of sections order size block (is.Interface link interface) = Ok (whole_step sections order size block (is.Interface link interface))
 step_of sections order size block (is.Packet stamp) = Ok (whole_step sections order size block (is.Packet stamp))
-
--- the content of a block of twelve octets of this type, which has no fixed field but its type
-abbrev pub bare : (kind : ℕ) → Found
-bare kind =
-    if kind == section_type then is.Fails faults.Block
-    else if kind == interface_type then is.Fails faults.Block
-    else if kind == enhanced_type then is.Fails faults.Block
-    else if kind == simple_type then is.Fails faults.Block
-    else if kind == old_packet_type then is.Fails faults.Block
-    else is.Passed
 
 -- the step of a whole block, or its fault
 abbrev pub told : (inside : Option (List ℕ)) → Sections → Order → (size : ℕ) → List ℕ → Result Step NgFault
@@ -115,19 +94,6 @@ order_at order octets = if u32_at Little octets 0 == section_type then order_by_
 abbrev pub size_at : Option Order → List ℕ → ℕ
 size_at None octets = 0
 size_at (Some order) octets = u32_at order octets 4
-
--- the result of parsing the first 12 octets of a block in this byte order
-abbrev pub front_in : Option Order → List ℕ → Result Front NgFault
-front_in None octets = Err faults.Magic
-front_in (Some order) octets =
-    if is_size (u32_at order octets 4) then Ok (record { order = order; kind = u32_at order octets 0; size = u32_at order octets 4 })
-    else Err faults.Block
-
--- a block begins with these octets
-pub record IsFront (head : List ℕ) (front : Front) : Type 0 where
-  pub kind : front.kind ≡ u32_at front.order head 0
-  pub size : front.size ≡ u32_at front.order head 4
-  pub sized : is_size front.size ≡ true
 
 -- the block at the front in this byte order; Magic if there is none
 abbrev pub ordered_at : (inside : Option (List ℕ)) → Sections → Option Order → List ℕ → Result (Option (Step × List ℕ)) NgFault

@@ -2,7 +2,7 @@
 use Rattle.std.specs.Prelude.{◌≡◌, ℕ, ◌+◌, List, [], ◌∷◌, Option, Some, None, IsSome, Ok, Err}
 use Rattle.pcap_file.specs.Records.{Packet}
 use Rattle.pcapng_file.specs.declared.fault.NgFault.{NgFault}
-use Rattle.pcapng_file.specs.Standing.{Sections, no_section}
+use Rattle.pcapng_file.specs.SectionState.{Sections, no_section}
 use Rattle.pcapng_file.specs.Blocks.{Step, block_at}
 
 -- the state of the file after these blocks, the newest first

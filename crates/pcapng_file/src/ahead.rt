@@ -1,8 +1,8 @@
 //! A source with a look-ahead buffer: octets that were read before, then the octets of a source.
 ghost use Rattle.std.specs.Prelude.{◌≡◌, ◌≤◌, length};
 ghost use Rattle.std.specs.Io.KnownBytes.{prepend_known};
-ghost use Rattle.edge_io.specs.Faults.{HasCause};
-ghost use Rattle.edge_io.specs.Octets.{Fills};
+ghost use Rattle.edge_io.specs.FaultCounts.{HasCause};
+ghost use Rattle.edge_io.specs.KnownOctets.{Fills};
 
 use edge_io::{Failed, Source, read_full};
 
@@ -28,8 +28,8 @@ impl<'a, S: Source> Ahead<'a, S> {
 impl<S: Source> Source for Ahead<'_, S> {
     ghost use Rattle.std.specs.Prelude.{◌≡◌};
     ghost use Rattle.std.specs.Io.KnownBytes.{prepend_known};
-    ghost use Rattle.edge_io.specs.Faults.{HasCause};
-    ghost use Rattle.edge_io.specs.Octets.{Fetches};
+    ghost use Rattle.edge_io.specs.FaultCounts.{HasCause};
+    ghost use Rattle.edge_io.specs.KnownOctets.{Fetches};
 
     ghost left = { λ a. prepend_known a.kept.now (S.left a.source.now) };
 

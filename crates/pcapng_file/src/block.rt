@@ -1,11 +1,11 @@
 //! Parsing of one block.
 ghost use Rattle.std.specs.Prelude.{◌≡◌, ◌++◌, ◌≤◌, ◌<◌, length, true, false, option_map, IfSome};
 ghost use Rattle.std.specs.Io.KnownBytes.{prepend_known};
-ghost use Rattle.edge_io.specs.Faults.{Rose};
-ghost use Rattle.pcapng_file.specs.Standing.{known};
-ghost use Rattle.pcapng_file.specs.Takes.{is_read_fault};
-ghost use Rattle.pcapng_file.specs.Blocks.{bare, IsFront};
-ghost use Rattle.pcapng_file.specs.Reads.{HasRoom, ReadsBody, ReadsRest, ReadsBlock};
+ghost use Rattle.edge_io.specs.FaultCounts.{Rose};
+ghost use Rattle.pcapng_file.specs.SectionState.{known};
+ghost use Rattle.pcapng_file.specs.ReadFaults.{is_read_fault};
+ghost use Rattle.pcapng_file.specs.working.BlockFronts.{bare, IsFront};
+ghost use Rattle.pcapng_file.specs.working.BlockReading.{HasRoom, ReadsBody, ReadsRest, ReadsBlock};
 ghost use Rattle.wire_base.specs.declared.limits.TheConstants.{MAX_CAPTURED};
 
 use crate::NgFault;

@@ -1,10 +1,11 @@
 //! The content of a block, by its fixed fields.
 ghost use Rattle.std.specs.Prelude.{◌≡◌, ◌+◌, ◌*◌, ◌≤◌, ◌^◌, length, slice_get, option_map};
-ghost use Rattle.pcapng_file.specs.Contents as contents;
-ghost use Rattle.pcapng_file.specs.Options.{padded};
-ghost use Rattle.pcapng_file.specs.Standing.{known};
-ghost use Rattle.pcap_file.specs.Heads as heads;
-ghost use Rattle.pcap_file.specs.Numbers.{u32_at};
+ghost use Rattle.pcapng_file.specs.BlockContents as contents;
+ghost use Rattle.pcapng_file.specs.working.ContentFaults as contents_working;
+ghost use Rattle.pcapng_file.specs.InterfaceOptions.{padded};
+ghost use Rattle.pcapng_file.specs.SectionState.{known};
+ghost use Rattle.pcap_file.specs.FileHead as heads;
+ghost use Rattle.pcap_file.specs.FileNumbers.{u32_at};
 
 use crate::NgFault;
 use crate::interface::Interface;
@@ -69,7 +70,7 @@ pub(crate) fn padded(size: u32) -> u64
 
 /// Returns the number of octets of fixed fields after the first twelve octets of a block.
 pub(crate) fn more_of(kind: u32, size: u32) -> usize
-    ensures value { result ≡ contents.more_of kind size }
+    ensures value { result ≡ contents_working.more_of kind size }
     ensures within { result ≤ 16 }
 {
     match kind {
@@ -290,7 +291,7 @@ fn clipped(snap: u32, original: u32) -> u32
 }
 
 /// Returns the content of a block of this type and size by its fixed fields.
-#[tactic(auto, unfolding(crate::specs::Contents::content_of))]
+#[tactic(auto, unfolding(crate::specs::BlockContents::content_of))]
 pub(crate) fn content_of(
     standing: &Standing,
     inside: Option<&[u8]>,
@@ -299,7 +300,7 @@ pub(crate) fn content_of(
     size: u32,
     fixed: &[u8],
 ) -> Content
-    requires { length fixed.now ≡ 12 + contents.more_of kind size }
+    requires { length fixed.now ≡ 12 + contents_working.more_of kind size }
     ensures { result ≡ contents.content_of (option_map (λ name. name.now) inside.entry) (known standing.now) order kind size fixed.now }
 {
     match kind {

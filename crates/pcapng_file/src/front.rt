@@ -1,6 +1,7 @@
 //! The first twelve octets of a block.
 ghost use Rattle.std.specs.Prelude.{◌≡◌, length};
 ghost use Rattle.pcapng_file.specs.Blocks as blocks;
+ghost use Rattle.pcapng_file.specs.working.BlockFronts as blocks_working;
 
 use crate::NgFault;
 use crate::content::SECTION;
@@ -52,7 +53,7 @@ fn order_at(section: Option<Order>, head: &[u8]) -> Option<Order>
 /// Parses the first twelve octets of a block.
 pub(crate) fn front_of(section: Option<Order>, head: &[u8]) -> Result<Front, NgFault>
     requires { length head.now ≡ 12 }
-    ensures { result ≡ blocks.front_in (blocks.order_at section head.now) head.now }
+    ensures { result ≡ blocks_working.front_in (blocks.order_at section head.now) head.now }
 {
     let Some(order) = order_at(section, head) else {
         return Err(NgFault::Magic);

@@ -1,10 +1,11 @@
 //! An interface, and the options that describe it.
 ghost use Rattle.std.specs.Prelude.{◌≡◌, ℕ, ◌<◌, ◌≤◌, List, [], min, take, slice_index, length, true, false, option_map, IfSome};
-ghost use Rattle.edge_io.specs.Faults.{Rose};
+ghost use Rattle.edge_io.specs.FaultCounts.{Rose};
 ghost use Rattle.std.specs.declared.option.Option.{Option};
-ghost use Rattle.pcapng_file.specs.Options.{is_named, nano_of};
-ghost use Rattle.pcapng_file.specs.Seen.{seen_behind, described_by};
-ghost use Rattle.pcapng_file.specs.Takes.{ReadsValue, ReadsOptions, is_read_fault};
+ghost use Rattle.pcapng_file.specs.InterfaceOptions.{is_named, nano_of};
+ghost use Rattle.pcapng_file.specs.working.OptionFacts.{seen_behind, described_by};
+ghost use Rattle.pcapng_file.specs.working.PartReading.{ReadsValue, ReadsOptions};
+ghost use Rattle.pcapng_file.specs.ReadFaults.{is_read_fault};
 
 use crate::NgFault;
 use crate::content::padded;

@@ -1,5 +1,5 @@
 //! Laws over the definitions alone.
-ghost use Rattle.pcapng_file.specs.Laws.{SectionsAreOne, FaultIsOne, FaultExcludesEnd, EachFileEnds, LinkStays, WalksOn};
+ghost use Rattle.pcapng_file.specs.FileLaws.{SectionsAreOne, FaultIsOne, FaultExcludesEnd, EachFileEnds, LinkStays, WalksOn};
 
 /// States that octets that are sections are one list of blocks.
 pub fn sections_are_one()

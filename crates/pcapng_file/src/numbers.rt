@@ -1,6 +1,6 @@
 //! Numbers in the byte order of a section.
 ghost use Rattle.std.specs.Prelude.{◌≡◌, ◌+◌, ◌≤◌, length};
-ghost use Rattle.pcap_file.specs.Numbers as numbers;
+ghost use Rattle.pcap_file.specs.FileNumbers as numbers;
 
 use byteorder::{BigEndian, ByteOrder, LittleEndian};
 use pcap_file::Order;

@@ -1,10 +1,11 @@
 //! A reader of the records of a pcapng file, one by one.
 ghost use Rattle.std.specs.Prelude.{◌≡◌, ◌≤◌, ◌<◌, length, true, false, option_map, IfOk, IfSome, Some, None, []};
 ghost use Rattle.std.specs.Io.KnownBytes.{prepend_known};
-ghost use Rattle.edge_io.specs.Faults.{Rose};
-ghost use Rattle.pcapng_file.specs.Takes.{is_read_fault};
-ghost use Rattle.pcapng_file.specs.Reads.{Looks, LooksAhead, Finds, IsSmall, Reads, Opens, OpensBehind, only_fault, IfPacket};
-ghost use Rattle.pcapng_file.specs.Reading.{written_head};
+ghost use Rattle.edge_io.specs.FaultCounts.{Rose};
+ghost use Rattle.pcapng_file.specs.ReadFaults.{is_read_fault};
+ghost use Rattle.pcapng_file.specs.working.BlockReading.{Looks, LooksAhead, Finds, IsSmall};
+ghost use Rattle.pcapng_file.specs.RecordReading.{Reads, Opens, OpensBehind, only_fault, IfPacket};
+ghost use Rattle.pcapng_file.specs.ReaderState.{written_head};
 ghost use Rattle.wire_base.specs.declared.limits.TheConstants.{MAX_CAPTURED};
 
 use crate::block::read_block;
@@ -29,8 +30,9 @@ pub struct NgReader {
 
 impl Model for NgReader {
     ghost use Rattle.std.specs.Prelude.{◌≤◌, ◌*◌, option_map};
-    ghost use Rattle.pcapng_file.specs.Standing.{known};
-    ghost use Rattle.pcapng_file.specs.Reading.{NgReading, IsUnlinked};
+    ghost use Rattle.pcapng_file.specs.SectionState.{known};
+    ghost use Rattle.pcapng_file.specs.ReaderState.{NgReading};
+    ghost use Rattle.pcapng_file.specs.working.SectionLinks.{IsUnlinked};
 
     ghost Value = { NgReading };
 

@@ -1,7 +1,8 @@
 //! The state of a file up to a block.
 ghost use Rattle.std.specs.Prelude.{◌≡◌, ◌<◌, length};
-ghost use Rattle.pcapng_file.specs.Blocks.{after_found, IsInterface};
-ghost use Rattle.pcapng_file.specs.Standing.{known, counted, no_section};
+ghost use Rattle.pcapng_file.specs.Blocks.{after_found};
+ghost use Rattle.pcapng_file.specs.working.BlockFronts.{IsInterface};
+ghost use Rattle.pcapng_file.specs.SectionState.{known, counted, no_section};
 
 use crate::content::Found;
 use crate::interface::Interface;

@@ -1,7 +1,8 @@
 //! Reading of parts of a block.
 ghost use Rattle.std.specs.Prelude.{◌≡◌, ◌≤◌, true, false};
-ghost use Rattle.edge_io.specs.Faults.{Rose};
-ghost use Rattle.pcapng_file.specs.Takes.{FillsWhole, Passes, Closes, is_read_fault};
+ghost use Rattle.edge_io.specs.FaultCounts.{Rose};
+ghost use Rattle.pcapng_file.specs.working.PartReading.{FillsWhole, Passes, Closes};
+ghost use Rattle.pcapng_file.specs.ReadFaults.{is_read_fault};
 
 use crate::NgFault;
 use crate::numbers::u32_at;

@@ -9,14 +9,14 @@ use Rattle.std.proofs.lemmas.List.FromFn.{get_or-map-range_with_len, length-map-
 use Rattle.rule_book.specs.declared.rule.Rule.{Rule}
 use Rattle.linked_table.proofs.Lists.{all_weaker}
 use Rattle.retain_store.specs.Maps.{octet_in}
-use Rattle.norm_settings.specs.Settings.{PlainSettings}
+use Rattle.norm_settings.specs.SettingValues.{PlainSettings}
 use Rattle.retain_store.proofs.Counts.{each}
 use Rattle.reassembly.specs.declared.id.DatagramId.{DatagramId}
 use Rattle.reassembly.specs.Calls.{Answer, held, done, dropped, Gathered, after, with_piece, of_others, pieces_in, is_id, forgets, Call, expiry, offer, gathered, is_old}
-use Rattle.reassembly.specs.Pieces.{StandsIn, reaches, Fragment, end_of, is_whole, front_of, octet_of, total_of, reach, is_filled, datagram_octets, IsMadeOf, whole_with}
-use Rattle.reassembly.specs.Rows.{dropped_by, View, f_df, f_empty, f_end, f_clash, f_many, f_room, first_row, own_rows, answer_by, answer_at, view_of, AreAnswered}
+use Rattle.reassembly.specs.DatagramFragments.{StandsIn, reaches, Fragment, end_of, is_whole, front_of, octet_of, total_of, reach, is_filled, datagram_octets, IsMadeOf, whole_with}
+use Rattle.reassembly.specs.RuleRows.{dropped_by, View, f_df, f_empty, f_end, f_clash, f_many, f_room, first_row, own_rows, answer_by, answer_at, view_of, AreAnswered}
 use Rattle.reassembly.specs.declared.piece.Front.{Front}
-use Rattle.reassembly.specs.Laws.{WholeIsItsPieces, IsSized, AreSized, IsSizedWhole, WholesAreSized}
+use Rattle.reassembly.specs.CallLaws.{WholeIsItsPieces, IsSized, AreSized, IsSizedWhole, WholesAreSized}
 use Rattle.reassembly.proofs.Order.{all_filter}
 use Rattle.reassembly.proofs.Pieces.{not_big, clash_none, in_piece, ends_more, none_not}
 

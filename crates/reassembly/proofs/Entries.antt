@@ -4,22 +4,22 @@ use Rattle.std.proofs.lemmas.List.Sums.{sum_by-cons}
 use Rattle.std.proofs.lemmas.List.Elements.{recursion_from_All}
 use Rattle.retain_store.specs.Maps.{Store, chain_of, octet_at}
 use Rattle.linked_table.specs.declared.table.Slot.{Slot}
-use Rattle.norm_settings.specs.Settings.{PlainSettings}
+use Rattle.norm_settings.specs.SettingValues.{PlainSettings}
 use Rattle.reassembly.specs.declared.id.DatagramId.{DatagramId}
 use Rattle.reassembly.specs.declared.progress.Progress.{Progress}
-use Rattle.reassembly.specs.Pieces.{Fragment, cells_of}
+use Rattle.reassembly.specs.DatagramFragments.{Fragment, cells_of}
 use Rattle.reassembly.specs.Calls.{Gathered, is_id, of_others, pieces_in, with_piece, cells_in, Call, gathered}
 use Rattle.reassembly.specs.declared.assembly.Assembly.{Assembly}
-use Rattle.reassembly.specs.Assemblies.{KeepsFor}
+use Rattle.reassembly.specs.AssemblyState.{KeepsFor}
 use Rattle.std.proofs.Common.{inl, inr, ◌≡◌, ◌≢◌, ℕ, not, true, false, cond, List, [], ◌∷◌, ◌++◌, length, refl, ap, ◌∙◌, arith, sym, subst, ◌<◌, ◌+◌, ◌-◌}
 use Rattle.std.specs.List.{sum_by, All, AllByRecursion, AllPairs}
 use Rattle.std.proofs.lemmas.Bool.{cases_eq}
-use Rattle.linked_table.specs.Table.{SplitAt, Entry, IsIn, Wherever, with_value, Pairwise}
+use Rattle.linked_table.specs.EntryTable.{SplitAt, Entry, IsIn, Wherever, with_value, Pairwise}
 use Rattle.linked_table.proofs.Lists.{filter_rest, all_join, all_weaker, all_before, all_after, pairwise}
-use Rattle.linked_table.specs.Table as table
+use Rattle.linked_table.specs.EntryTable as table
 use Rattle.linked_table.proofs.Entries.{wherever, left_out, valued, split_at}
 use Rattle.retain_store.proofs.Counts.{AreApart, sum_chains}
-use Rattle.reassembly.specs.Standing.{EachStands, EntryStands, IsFree, HoldsFor, Keeps, ProgressOf}
+use Rattle.reassembly.specs.TableAndStore.{EachStands, EntryStands, IsFree, HoldsFor, Keeps, ProgressOf}
 
 -- Entries and the datagrams that they represent, at a slot and elsewhere.
 

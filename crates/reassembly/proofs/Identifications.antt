@@ -1,12 +1,12 @@
 -- Datagrams of two identifications are independent.
 use Rattle.std.proofs.Common.{◌≡◌, ℕ, not, Bool, true, false, cond, List, [], ◌∷◌, refl, sym, ap, subst, ◌∙◌, ◌&&◌, ◌||◌, ap₂, arith}
 use Rattle.std.specs.List.{AllByRecursion, filter, list_any}
-use Rattle.linked_table.specs.Table.{Pairwise}
+use Rattle.linked_table.specs.EntryTable.{Pairwise}
 use Rattle.linked_table.proofs.Lists.{all_weaker}
 use Rattle.reassembly.specs.declared.id.DatagramId.{DatagramId}
-use Rattle.reassembly.specs.Pieces.{Fragment}
+use Rattle.reassembly.specs.DatagramFragments.{Fragment}
 use Rattle.reassembly.specs.Calls.{Answer, held, done, dropped, Call, offer, Gathered, gathered, after, with_piece, of_others, pieces_in, is_id, forgets, expiry, is_old}
-use Rattle.reassembly.specs.Laws.{own_after, calls_on, DatagramsAreApart}
+use Rattle.reassembly.specs.CallLaws.{own_after, calls_on, DatagramsAreApart}
 use Rattle.reassembly.proofs.Entries.{id_same, id_is}
 use Rattle.reassembly.proofs.Order.{pairs_filter}
 

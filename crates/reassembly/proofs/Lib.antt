@@ -1,9 +1,8 @@
-pub mod Worked
+pub mod Rules
 pub mod Entries
 pub mod Pieces
 pub mod Order
 pub mod Offers
-pub mod Rules
 pub mod Identifications
 pub mod Datagrams
 pub mod Limits

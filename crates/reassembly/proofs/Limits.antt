@@ -4,13 +4,13 @@ use Rattle.std.specs.List.{filter, count_by, list_any, range_with_len}
 use Rattle.std.proofs.lemmas.Bool.{false_from_ne_true}
 use Rattle.std.proofs.lemmas.Bool.Decides.{nat_tests}
 use Rattle.std.proofs.lemmas.List.Sums.{sum_by-cons}
-use Rattle.norm_settings.specs.Settings.{PlainSettings}
+use Rattle.norm_settings.specs.SettingValues.{PlainSettings}
 use Rattle.retain_store.specs.Maps.{octet_in}
-use Rattle.reassembly.specs.Pieces.{Fragment, end_of, octet_of, reach, has_block, cells_of, missing_of}
+use Rattle.reassembly.specs.DatagramFragments.{Fragment, end_of, octet_of, reach, has_block, cells_of, missing_of}
 use Rattle.reassembly.specs.Calls.{Answer, held, done, dropped, Call, expiry, offer, Gathered, gathered, after, with_piece, of_others, pieces_in, cells_in, is_id, is_old, forgets}
-use Rattle.reassembly.specs.Rows.{is_none_held, answer_at, view_of, AreAnswered}
+use Rattle.reassembly.specs.RuleRows.{is_none_held, answer_at, view_of, AreAnswered}
 use Rattle.retain_store.proofs.Counts.{none_counted, parts}
-use Rattle.reassembly.specs.Laws.{AnsweredIsWithin}
+use Rattle.reassembly.specs.CallLaws.{AnsweredIsWithin}
 use Rattle.reassembly.proofs.Offers.{any_none}
 use Rattle.reassembly.proofs.Datagrams.{FitsIn, fits_in, held_not_dropped}
 use Rattle.reassembly.proofs.Pieces.{in_piece, below_reach, some_or}

@@ -9,26 +9,29 @@ use Rattle.retain_store.proofs.Counts.{each}
 use Rattle.rule_book.specs.declared.rule.Rule.{Rule}
 use Rattle.rule_book.specs.declared.rule.Rule.TheVariants.{FEnd, FClash}
 use Rattle.linked_table.proofs.Lists.{all_weaker, all_before, filter_all}
-use Rattle.norm_settings.specs.Settings.{PlainSettings}
+use Rattle.norm_settings.specs.SettingValues.{PlainSettings}
 use Rattle.reassembly.specs.declared.id.DatagramId.{DatagramId}
 use Rattle.reassembly.specs.declared.progress.Progress.{Progress}
-use Rattle.reassembly.specs.Pieces.{Fragment, octet_of, total_of, front_of, is_filled, is_whole, datagram_octets, whole_if, whole_of, cells_of, missing_of, has_block, end_of, IsMadeOf}
+use Rattle.reassembly.specs.DatagramFragments.{Fragment, octet_of, total_of, front_of, is_filled, is_whole, datagram_octets, whole_of, cells_of, missing_of, has_block, end_of, IsMadeOf}
+use Rattle.reassembly.specs.working.CompleteDatagram.{whole_if}
 use Rattle.reassembly.specs.Calls.{Gathered, pieces_in, after, of_others, with_piece, done, held, is_id, Answer, dropped, Call, gathered}
 use Rattle.reassembly.specs.declared.assembly.Assembly.{Assembly}
-use Rattle.reassembly.specs.Assemblies.{IsAnswered, KeepsFor}
+use Rattle.reassembly.specs.working.FragmentAnswers.{IsAnswered}
+use Rattle.reassembly.specs.AssemblyState.{KeepsFor}
 use Rattle.std.proofs.Common.{is_none, append-nil, ◌≡◌, ◌≢◌, ℕ, ◌+◌, ◌<◌, ◌≤◌, Bool, true, false, cond, List, [], ◌∷◌, ◌++◌, length, map, take, Option, Some, None, is_some, refl, sym, ap, ap₂, subst, ◌∙◌, arith, zero, suc, ◌*◌, ◌/◌, not, ◌&&◌, unwrap_or, Result, Ok, Err, IfOk, OnErr, slice_index, nat_lt, nat_le}
 use Rattle.std.proofs.lemmas.List.FromFn.{fill_by_all}
 use Rattle.std.proofs.Math.Seq.{take-append_seam}
 use Rattle.std.proofs.lemmas.Bool.{and_right}
 use Rattle.std.proofs.lemmas.List.Quantifiers.{Any-push}
-use Rattle.linked_table.specs.Table.{Table, IsNotIn, Entry, IsIn, Wherever, with_value, HasNone}
-use Rattle.linked_table.specs.Table as table
+use Rattle.linked_table.specs.EntryTable.{Table, IsNotIn, Entry, IsIn, Wherever, with_value, HasNone}
+use Rattle.linked_table.specs.EntryTable as table
 use Rattle.retain_store.specs.Maps.{Covers, touched, Block, Store, ChangesOnly, chain_of, octet_at, missing}
 use Rattle.retain_store.proofs.Blocks.{others_same}
 use Rattle.reassembly.specs.declared.piece.Whole.{Whole}
-use Rattle.reassembly.specs.Rows.{offered, Carries, offered_at, JoinsPieces, ends_otherwise, f_end, own_rows, first_row, answer_by, clashes, odd_rows, f_clash, is_none_held, answer_at, view_of, AreAnswered}
+use Rattle.reassembly.specs.RuleRows.{offered, Carries, offered_at, JoinsPieces, ends_otherwise, f_end, own_rows, first_row, answer_by, clashes, odd_rows, f_clash, is_none_held, answer_at, view_of, AreAnswered}
 use Rattle.reassembly.specs.declared.piece.Offered.TheVariants as offers
-use Rattle.reassembly.specs.Standing.{IsJoined, Gathers, HoldsFor, Keeps, ProgressOf, EntryStands, IsFree}
+use Rattle.reassembly.specs.working.JoinedFragments.{IsJoined, Gathers}
+use Rattle.reassembly.specs.TableAndStore.{HoldsFor, Keeps, ProgressOf, EntryStands, IsFree}
 use Rattle.reassembly.specs.declared.piece.Offered.{Offered}
 use Rattle.reassembly.proofs.Entries.{Found, found, progress_of, forget_holds, put_holds, joined, lengths, ids_other, id_same, pieces_none, pieces_at, with_new, with_own, others_at}
 use Rattle.reassembly.proofs.Datagrams.{len_is, whole_is_its_pieces}

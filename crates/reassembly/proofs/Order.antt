@@ -10,12 +10,13 @@ use Rattle.retain_store.specs.Maps.{Store}
 use Rattle.linked_table.proofs.Lists.{all_weaker, all_after, pairwise, filter_all}
 use Rattle.reassembly.specs.declared.id.DatagramId.{DatagramId}
 use Rattle.reassembly.specs.declared.progress.Progress.{Progress}
-use Rattle.reassembly.specs.Pieces.{Fragment}
+use Rattle.reassembly.specs.DatagramFragments.{Fragment}
 use Rattle.reassembly.specs.Calls.{Answer, held, done, dropped, Call, expiry, offer, Gathered, is_id, is_old, of_others, pieces_in, with_piece, forgets, after, gathered}
-use Rattle.reassembly.specs.Rows.{is_none_held}
-use Rattle.reassembly.specs.Standing.{HoldsFor}
-use Rattle.linked_table.specs.Table.{first_slot, Entry, Pairwise, Wherever}
-use Rattle.reassembly.specs.Assemblies.{AreInOrder, without_first, begins_old}
+use Rattle.reassembly.specs.RuleRows.{is_none_held}
+use Rattle.reassembly.specs.TableAndStore.{HoldsFor}
+use Rattle.linked_table.specs.EntryTable.{first_slot, Entry, Pairwise, Wherever}
+use Rattle.reassembly.specs.AssemblyState.{AreInOrder}
+use Rattle.reassembly.specs.working.FragmentAnswers.{without_first, begins_old}
 use Rattle.reassembly.proofs.Entries.{Found, ids_other, id_same}
 
 -- Datagrams stay in order of their first fragments, each has a fragment, and a fragment is looked

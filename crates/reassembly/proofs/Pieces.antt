@@ -5,14 +5,15 @@ use Rattle.std.proofs.lemmas.Bool.Decides.{nat_tests}
 use Rattle.rule_book.specs.declared.rule.Rule.{Rule}
 use Rattle.rule_book.specs.declared.rule.Rule.TheVariants.{FDf, FEmpty, FAlign, FBig}
 use Rattle.reassembly.specs.declared.progress.Progress.{Progress}
-use Rattle.reassembly.specs.Standing.{Keeps, ProgressOf}
+use Rattle.reassembly.specs.TableAndStore.{Keeps, ProgressOf}
 use Rattle.std.proofs.Common.{max, is_none, ◌≡◌, ℕ, zero, suc, ◌+◌, ◌-◌, ◌==◌, ◌<◌, ◌≤◌, Bool, true, false, cond, not, List, [], ◌∷◌, length, Option, Some, None, is_some, refl, sym, ap, ap₂, ◌∙◌, arith, ◌||◌, ◌&&◌, ◌*◌, ◌/◌, ◌↔◌, nat_lt, slice_get, slice_index}
 use Rattle.std.proofs.lemmas.Bool.{or_parts, false_from_ne_true}
 use Rattle.retain_store.specs.Maps.{Agrees, IsMap, IsWithin, holds, Block, Places, octet_in, octet_at, fresh}
 use Rattle.retain_store.proofs.Counts.{agree, count_most, none_counted, either, full, parts}
 use Rattle.retain_store.proofs.Room.{count_is}
-use Rattle.reassembly.specs.Pieces.{filled_in, Fragment, end_of, octet_of, total_of, reach, front_of, is_filled, is_whole, whole_with, whole_if, whole_of, cells_of}
-use Rattle.reassembly.specs.Rows.{differs, ends_otherwise, f_df, f_empty, f_align, f_end, own_rows, first_row, clashes}
+use Rattle.reassembly.specs.DatagramFragments.{filled_in, Fragment, end_of, octet_of, total_of, reach, front_of, is_filled, is_whole, whole_with, whole_of, cells_of}
+use Rattle.reassembly.specs.working.CompleteDatagram.{whole_if}
+use Rattle.reassembly.specs.RuleRows.{differs, ends_otherwise, f_df, f_empty, f_align, f_end, own_rows, first_row, clashes}
 
 -- What fragments make together, with one fragment more.
 

@@ -1,17 +1,18 @@
--- Which rule decides on a fragment.
+-- Which rule decides on a fragment; the worked cases are computed.
 use Rattle.std.proofs.Common.{◌≡◌, ℕ, ◌<◌, ◌≤◌, Bool, true, false, cond, List, [], ◌∷◌, ◌++◌, Option, Some, None, refl, sym, ap, subst, ◌∙◌, arith, ◌&&◌, nat_lt}
 use Rattle.std.specs.Option.{option_or}
 use Rattle.std.proofs.lemmas.Bool.Decides.{nat_tests}
 use Rattle.rule_book.specs.declared.rule.Rule.{Rule}
 use Rattle.rule_book.specs.declared.rule.Rule.TheVariants.{FDf, FEmpty, FAlign, FBig, FMany, FRoom}
-use Rattle.reassembly.specs.Pieces.{Fragment, is_whole}
+use Rattle.reassembly.specs.DatagramFragments.{Fragment, is_whole}
 use Rattle.reassembly.specs.Calls.{Answer, dropped, Gathered, forgets, of_others}
 use Rattle.reassembly.specs.declared.assembly.Assembly.{Assembly}
-use Rattle.reassembly.specs.Standing.{HoldsFor}
-use Rattle.reassembly.specs.Assemblies.{IsAnswered}
+use Rattle.reassembly.specs.TableAndStore.{HoldsFor}
+use Rattle.reassembly.specs.working.FragmentAnswers.{IsAnswered}
 use Rattle.reassembly.specs.declared.piece.Offered.TheVariants as offers
-use Rattle.reassembly.specs.Rows.{Row, f_big, View, first_row, own_rows, odd_rows, f_df, f_empty, f_align, f_many, f_room, is_none_held, answer_by, answer_at}
-use Rattle.reassembly.specs.Laws.{FirstRowDrops}
+use Rattle.reassembly.specs.RuleRows.{Row, f_big, View, first_row, own_rows, odd_rows, f_df, f_empty, f_align, f_many, f_room, is_none_held, answer_by, answer_at}
+use Rattle.reassembly.specs.CallLaws.{FirstRowDrops}
+use Rattle.reassembly.specs.WorkedCases.{WorkedRows}
 
 join_step : (b : Bool) (rule : Rule) (joined left right : Option Rule) → joined ≡ option_or left right → cond b (Some rule) joined ≡ option_or (cond b (Some rule) left) right
 join_step true rule joined left right e = refl
@@ -83,3 +84,28 @@ four_join false false false false r s t u rest = refl
 
 pub first_row_drops : FirstRowDrops
 first_row_drops v p = four_join (f_df p) (f_empty p) (f_align p) (f_big p) FDf FEmpty FAlign FBig (first_row (odd_rows v.pieces p ++ last_rows v p))
+
+-- The worked cases.
+
+pub worked : WorkedRows
+worked = record {
+  first = refl;
+  second = refl;
+  third = refl;
+  octets = refl;
+  clash = refl;
+  forgotten = refl;
+  longest = refl;
+  too_long = refl;
+  many = refl;
+  elsewhere = refl;
+  past_end = refl;
+  not_to_be_split = refl;
+  nothing = refl;
+  odd = refl;
+  no_room = refl;
+  same_block = refl;
+  head = refl;
+  in_time = refl;
+  out_of_time = refl;
+}

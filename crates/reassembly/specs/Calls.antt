@@ -5,7 +5,7 @@ use Rattle.std.specs.List.{sum_by}
 use Rattle.rule_book.specs.declared.rule.Rule.{Rule}
 use Rattle.rule_book.specs.declared.rule.Rule.TheVariants.{FEnd, FClash}
 use Rattle.reassembly.specs.declared.id.DatagramId.{DatagramId}
-use Rattle.reassembly.specs.Pieces.{Fragment, cells_of}
+use Rattle.reassembly.specs.DatagramFragments.{Fragment, cells_of}
 
 -- the answer to a fragment: it was held, it completed its datagram, or it was dropped under a rule
 pub data Answer : Type 0 where

@@ -1,8 +1,8 @@
-pub mod Keys
-pub mod Pieces
+pub mod DatagramFragments
 pub mod Calls
-pub mod Rows
-pub mod Standing
-pub mod Assemblies
-pub mod Worked
-pub mod Laws
+pub mod RuleRows
+pub mod TableAndStore
+pub mod AssemblyState
+pub mod WorkedCases
+pub mod CallLaws
+pub mod working

@@ -1,6 +1,6 @@
 //! The datagrams with held fragments.
 ghost use Rattle.std.specs.Prelude.{◌≡◌, length};
-ghost use Rattle.reassembly.specs.Standing.{Gathers};
+ghost use Rattle.reassembly.specs.working.JoinedFragments.{Gathers};
 
 use crate::id::DatagramId;
 use crate::progress::Progress;
@@ -28,9 +28,9 @@ pub struct Assembly {
 
 impl Assembly {
     ghost use Rattle.std.specs.Prelude.{◌≤◌, List, [], IfOk};
-    ghost use Rattle.norm_settings.specs.Settings.{PlainSettings, plain_settings, AreInRange};
+    ghost use Rattle.norm_settings.specs.SettingValues.{PlainSettings, plain_settings, AreInRange};
     ghost use Rattle.reassembly.specs.Calls.{Call, gathered, cells_in};
-    ghost use Rattle.reassembly.specs.Assemblies.{StandsFor, last_time};
+    ghost use Rattle.reassembly.specs.AssemblyState.{StandsFor, last_time};
 
     /// Creates an assembly without fragments.
     pub fn open(alloc: Global, settings: &Settings) -> Result<Assembly, NoMemory>

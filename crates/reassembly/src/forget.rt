@@ -6,12 +6,13 @@ use retain_store::ChainId;
 impl Assembly {
     ghost use Rattle.std.specs.Prelude.{◌≡◌, ◌≤◌, ◌<◌, ℕ, List, [], ◌∷◌, length, true, false, IsTrue};
     ghost use Rattle.std.specs.List.{count_by};
-    ghost use Rattle.linked_table.specs.Table.{IsIn, Wherever};
-    ghost use Rattle.norm_settings.specs.Settings.{PlainSettings};
+    ghost use Rattle.linked_table.specs.EntryTable.{IsIn, Wherever};
+    ghost use Rattle.norm_settings.specs.SettingValues.{PlainSettings};
     ghost use Rattle.reassembly.specs.declared.id.DatagramId.{DatagramId};
     ghost use Rattle.reassembly.specs.Calls.{Call, expiry, Gathered, gathered, of_others, is_old};
-    ghost use Rattle.reassembly.specs.Standing.{HoldsFor};
-    ghost use Rattle.reassembly.specs.Assemblies.{IsFor, KeepsFor, StandsFor, begins_old, last_time, without_first};
+    ghost use Rattle.reassembly.specs.TableAndStore.{HoldsFor};
+    ghost use Rattle.reassembly.specs.AssemblyState.{IsFor, KeepsFor, StandsFor, last_time};
+    ghost use Rattle.reassembly.specs.working.FragmentAnswers.{begins_old, without_first};
 
     // Removes the datagram in this slot: its octets and its entry. The others stay.
     pub(crate) fn forget(&mut self, slot: Slot)

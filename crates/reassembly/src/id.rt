@@ -1,7 +1,7 @@
 //! The identification of a datagram.
 ghost use Rattle.std.specs.Prelude.{◌≡◌, ◌+◌, ◌*◌, ◌<◌, ◌^◌, ℕ, true};
 ghost use Rattle.std.proofs.Common.{rules};
-ghost use Rattle.reassembly.specs.Keys.{hash_of};
+ghost use Rattle.reassembly.specs.working.KeyHashes.{hash_of};
 
 use linked_table::{Key, hash_words};
 use wire_base::Addr;

@@ -1,6 +1,6 @@
 //! Laws of calls.
-ghost use Rattle.reassembly.specs.Worked.{WorkedRows};
-ghost use Rattle.reassembly.specs.Laws.{AnsweredIsWithin, DatagramsAreApart, FirstRowDrops, WholeIsItsPieces, WholesAreSized};
+ghost use Rattle.reassembly.specs.WorkedCases.{WorkedRows};
+ghost use Rattle.reassembly.specs.CallLaws.{AnsweredIsWithin, DatagramsAreApart, FirstRowDrops, WholeIsItsPieces, WholesAreSized};
 
 /// Proves that a complete datagram is made of its fragments: each is at its offset, each octet is
 /// of one, and one is at offset 0.

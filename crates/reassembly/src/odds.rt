@@ -1,10 +1,10 @@
 //! A fragment that contradicts what is held for its datagram.
 ghost use Rattle.std.specs.Prelude.{◌≡◌, ◌<◌, ◌≤◌, List, length, true, false, IfSome, IfNone};
 ghost use Rattle.retain_store.specs.Maps.{chain_of};
-ghost use Rattle.reassembly.specs.Pieces.{Fragment, fragment_of, IsPiece};
+ghost use Rattle.reassembly.specs.DatagramFragments.{Fragment, fragment_of, IsPiece};
 ghost use Rattle.reassembly.specs.Calls.{forgets};
-ghost use Rattle.reassembly.specs.Rows.{f_clash, ends_otherwise, first_row, odd_rows};
-ghost use Rattle.reassembly.specs.Standing.{Keeps, ProgressOf};
+ghost use Rattle.reassembly.specs.RuleRows.{f_clash, ends_otherwise, first_row, odd_rows};
+ghost use Rattle.reassembly.specs.TableAndStore.{Keeps, ProgressOf};
 
 use crate::piece::Piece;
 use crate::progress::Progress;

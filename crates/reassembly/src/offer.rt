@@ -12,14 +12,15 @@ use rule_book::Rule;
 
 impl Assembly {
     ghost use Rattle.std.specs.Prelude.{◌≡◌, ◌≤◌, ℕ, Bool, List, ◌∷◌, length, nat_le, false, None};
-    ghost use Rattle.linked_table.specs.Table.{IsIn, HasNone, Wherever};
-    ghost use Rattle.norm_settings.specs.Settings.{PlainSettings};
+    ghost use Rattle.linked_table.specs.EntryTable.{IsIn, HasNone, Wherever};
+    ghost use Rattle.norm_settings.specs.SettingValues.{PlainSettings};
     ghost use Rattle.retain_store.specs.Maps.{chain_of, missing};
-    ghost use Rattle.reassembly.specs.Pieces.{fragment_of, IsPiece, is_whole};
+    ghost use Rattle.reassembly.specs.DatagramFragments.{fragment_of, IsPiece, is_whole};
     ghost use Rattle.reassembly.specs.Calls.{Call, Gathered, gathered, pieces_in};
-    ghost use Rattle.reassembly.specs.Rows.{ends_otherwise, own_rows, first_row, answer_by, answer_at, offered_at, view_in, view_of, is_none_held, call_of, Carries, IsShort, JoinsPieces};
-    ghost use Rattle.reassembly.specs.Standing.{HoldsFor};
-    ghost use Rattle.reassembly.specs.Assemblies.{IsAnswered, IsFor, KeepsFor, StandsFor, last_time};
+    ghost use Rattle.reassembly.specs.RuleRows.{ends_otherwise, own_rows, first_row, answer_by, answer_at, offered_at, view_in, view_of, is_none_held, call_of, Carries, IsShort, JoinsPieces};
+    ghost use Rattle.reassembly.specs.TableAndStore.{HoldsFor};
+    ghost use Rattle.reassembly.specs.working.FragmentAnswers.{IsAnswered};
+    ghost use Rattle.reassembly.specs.AssemblyState.{IsFor, KeepsFor, StandsFor, last_time};
     ghost use Rattle.wire_base.specs.declared.limits.TheConstants.{MAX_PAYLOAD};
 
     // Takes a fragment that no rule drops, in the slot of its datagram.

@@ -1,6 +1,6 @@
 //! Fragments of datagrams, and the answers to them.
 ghost use Rattle.std.specs.Prelude.{◌≡◌, ◌≤◌, ◌<◌, length};
-ghost use Rattle.reassembly.specs.Pieces.{fragment_of, end_of, IsPiece};
+ghost use Rattle.reassembly.specs.DatagramFragments.{fragment_of, end_of, IsPiece};
 
 use crate::id::DatagramId;
 use rule_book::Rule;

@@ -1,8 +1,9 @@
 //! The values kept of a datagram's fragments besides their octets.
 ghost use Rattle.std.specs.Prelude.{◌≡◌, ◌+◌, ◌^◌, ◌<◌, ◌≤◌, max, ◌==◌, ◌||◌, ◌&&◌, not, nat_lt, List, ◌∷◌, [], length, Option, Some, None, if◌then◌else◌};
 ghost use Rattle.std.specs.Option.{option_or};
-ghost use Rattle.reassembly.specs.Pieces.{fragment_of, end_of, IsPiece, whole_with, whole_if};
-ghost use Rattle.reassembly.specs.Rows.{is_past, is_other, ends_otherwise};
+ghost use Rattle.reassembly.specs.DatagramFragments.{fragment_of, end_of, IsPiece, whole_with};
+ghost use Rattle.reassembly.specs.working.CompleteDatagram.{whole_if};
+ghost use Rattle.reassembly.specs.RuleRows.{is_past, is_other, ends_otherwise};
 
 use crate::piece::{Front, Piece, Whole};
 

@@ -1,8 +1,8 @@
 //! The rules on a fragment alone.
 ghost use Rattle.std.specs.Prelude.{◌≡◌, false, IfSome};
 ghost use Rattle.reassembly.specs.Calls.{forgets};
-ghost use Rattle.reassembly.specs.Pieces.{fragment_of, IsPiece};
-ghost use Rattle.reassembly.specs.Rows.{first_row, own_rows};
+ghost use Rattle.reassembly.specs.DatagramFragments.{fragment_of, IsPiece};
+ghost use Rattle.reassembly.specs.RuleRows.{first_row, own_rows};
 
 use crate::piece::Piece;
 use rule_book::Rule;

@@ -1,8 +1,9 @@
 //! Addition of a fragment's octets to its datagram.
 ghost use Rattle.std.specs.Prelude.{◌≡◌, ◌<◌, ◌≤◌, List, length};
 ghost use Rattle.retain_store.specs.Maps.{chain_of, missing, ChangesOnly};
-ghost use Rattle.reassembly.specs.Pieces.{Fragment, fragment_of, IsPiece};
-ghost use Rattle.reassembly.specs.Standing.{IsJoined, Keeps};
+ghost use Rattle.reassembly.specs.DatagramFragments.{Fragment, fragment_of, IsPiece};
+ghost use Rattle.reassembly.specs.working.JoinedFragments.{IsJoined};
+ghost use Rattle.reassembly.specs.TableAndStore.{Keeps};
 ghost use Rattle.wire_base.specs.declared.limits.TheConstants.{MAX_PAYLOAD};
 
 use crate::piece::Piece;

@@ -10,7 +10,7 @@ use Rattle.wire_base.specs.Plain.{Plain}
 use Rattle.receiver_model.specs.Offsets.{IsPlace, IsNear, Names, raised_of, offset_in, Carries, Ends}
 use Rattle.receiver_model.specs.Policies.{is_near, index_of}
 use Rattle.receiver_model.specs.Delivery.{Receiver, WaitFrom, Step, beginning, Reads, Run, InTime, IsTimely, DeliversInTime}
-use Rattle.receiver_model.specs.Agreement.{IsPrefixOf, Agree, OctetAt, FinAt, TellOneStream, IsMember, MembersAgree}
+use Rattle.receiver_model.specs.FamilyAgreement.{IsPrefixOf, Agree, OctetAt, FinAt, TellOneStream, IsMember, MembersAgree}
 use Rattle.receiver_model.specs.declared.member.Member.{Member}
 use Rattle.receiver_model.specs.Messages.{PlainIsReadAlike}
 

@@ -5,9 +5,9 @@ use Rattle.std.proofs.lemmas.Option.{slice_get_within}
 use Rattle.std.proofs.lemmas.Bool.{cases_lt}
 use Rattle.wire_base.specs.Segments.{Segment, segment_of}
 use Rattle.receiver_model.specs.Delivery.{Receiver, Run, IsTimely, beginning, Hears}
-use Rattle.receiver_model.specs.Agreement.{Agree, IsPrefixOf, OctetAt, FinAt, TellOneStream}
+use Rattle.receiver_model.specs.FamilyAgreement.{Agree, IsPrefixOf, OctetAt, FinAt, TellOneStream}
 use Rattle.receiver_model.specs.Monitors.{KeepsEach, HasDeliveredAll, Covers, MissesNothingInTime, TakesInOrder, StayNearAcks, MissesNothingInOrder, HasOctetOrFin, IsNeverFarBehind, MonitorsAreInTime}
-use Rattle.receiver_model.specs.Parts.{InOrderIsInTime}
+use Rattle.receiver_model.specs.StreamParts.{InOrderIsInTime}
 use Rattle.receiver_model.specs.Streams.{places_from}
 use Rattle.receiver_model.proofs.Members.{IsStream, Sound, none_has_more, sound_agree, sound_beginning, is_stream, run_keeps, ComesInTime}
 use Rattle.receiver_model.proofs.Receivers.{Kept, kept_now, kept_on, goes_on, IsRest, rest_all, rest_first, rest_on, has_ack, Caught, caught_none, caught_sound, caught_next, ahead_of_ack, ahead_at_end, comes_in_time, IsAhead}

@@ -5,9 +5,9 @@ use Rattle.std.proofs.lemmas.Int.{ints}
 use Rattle.std.proofs.lemmas.Option.{slice_get_within, slice_get-get_or}
 use Rattle.std.proofs.lemmas.Bool.{cases_lt}
 use Rattle.receiver_model.specs.Delivery.{Receiver, beginning}
-use Rattle.receiver_model.specs.Agreement.{IsPrefixOf, Agree, OctetAt, FinAt}
+use Rattle.receiver_model.specs.FamilyAgreement.{IsPrefixOf, Agree, OctetAt, FinAt}
 use Rattle.receiver_model.specs.Monitors.{HasDeliveredAll}
-use Rattle.receiver_model.specs.Parts.{ReadsPart, AreOfStream, MembersReadParts, Meet, CoversPart, MonitorsCoverParts}
+use Rattle.receiver_model.specs.StreamParts.{ReadsPart, AreOfStream, MembersReadParts, Meet, CoversPart, MonitorsCoverParts}
 use Rattle.receiver_model.proofs.Members.{IsStream, ReadFrom, Sound, is_stream, run_keeps, sound_beginning}
 use Rattle.receiver_model.proofs.Monitors.{kept_in, none_kept_next}
 use Rattle.receiver_model.proofs.Receivers.{Kept}

@@ -11,26 +11,26 @@ use Rattle.wire_base.specs.Ipv4 as ip
 use Rattle.wire_base.specs.Tcp as tcp
 use Rattle.wire_base.specs.Plain.{IsPlainHeader, IsPlainTcp, IsPlainIcmp, IsPlainMessage, IsPlainUdp, pseudo_of}
 use Rattle.wire_base.specs.Segments.{fields_of, Segment}
-use Rattle.wire_base.specs.Reading.{value_or_fault}
+use Rattle.wire_base.specs.ParseResults.{value_or_fault}
 use Rattle.wire_base.specs.Udp as udp
-use Rattle.wire_base.specs.Sums.{pseudo_sum, sum_is_right}
+use Rattle.wire_base.specs.Checksums.{pseudo_sum, sum_is_right}
 use Rattle.wire_base.specs.Options.{cleaned}
-use Rattle.ipv4_codec.specs.Header as ip_header
-use Rattle.udp_codec.specs.Header as udp_header
-use Rattle.icmp_codec.specs.Header as icmp_header
-use Rattle.tcp_codec.specs.Header as tcp_header
+use Rattle.ipv4_codec.specs.HeaderFields as ip_header
+use Rattle.udp_codec.specs.HeaderFields as udp_header
+use Rattle.icmp_codec.specs.HeaderFields as icmp_header
+use Rattle.tcp_codec.specs.HeaderFields as tcp_header
 use Rattle.ipv4_codec.specs.declared.header.Ipv4.{Ipv4}
 use Rattle.tcp_codec.specs.declared.header.Tcp.{Tcp}
 use Rattle.tcp_codec.specs.declared.header.TcpFault.{TcpFault}
 use Rattle.tcp_codec.specs.declared.header.SumRule.TheVariants.{Must}
 use Rattle.tcp_codec.proofs.Segments.{area_is, length-octets_with, read_back}
 use Rattle.ipv4_codec.proofs.PlainHeaders.{header-plain}
-use Rattle.tcp_codec.specs.Write as write
+use Rattle.tcp_codec.specs.WrittenSegment as write
 use Rattle.wire_base.proofs.Octets.{four-octets}
 use Rattle.receiver_model.specs.declared.segment.Segment.{Segment as Fields}
-use Rattle.receiver_model.specs.Fields.{segment_in}
-use Rattle.receiver_model.specs.Tests.{is_bare}
-use Rattle.receiver_model.specs.Written.{AreRead, IsPlainSegment, packet_of}
+use Rattle.receiver_model.specs.SegmentFields.{segment_in}
+use Rattle.receiver_model.specs.working.FieldTests.{is_bare}
+use Rattle.receiver_model.specs.WrittenPackets.{AreRead, IsPlainSegment, packet_of}
 
 -- The positions of the fields of a plain TCP packet in its octets.
 

@@ -9,7 +9,7 @@ use Rattle.wire_base.specs.Segments.{Segment, segment_of}
 use Rattle.wire_base.specs.Tcp as tcp
 use Rattle.receiver_model.specs.Offsets.{IsPlace, IsNear, Carries, Ends}
 use Rattle.receiver_model.specs.Delivery.{Receiver, Step, Hears, beginning}
-use Rattle.receiver_model.specs.Agreement.{OctetAt, FinAt, TellOneStream}
+use Rattle.receiver_model.specs.FamilyAgreement.{OctetAt, FinAt, TellOneStream}
 use Rattle.receiver_model.specs.Monitors.{Keeps, HasDeliveredAll, TakesAndDelivers, StayNearAcks}
 use Rattle.receiver_model.proofs.Members.{place_on, ComesInTime, all_at, plain_nearer, IsStream, Sound, sound_beginning, sound_more, step_keeps, read_end, octet_of_frame, fin_of_frame}
 

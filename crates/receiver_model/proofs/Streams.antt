@@ -13,14 +13,16 @@ use Rattle.wire_base.specs.Tcp as tcp
 use Rattle.receiver_model.specs.declared.policy.Policy.{Policy}
 use Rattle.receiver_model.specs.Delivery.{WaitFrom, Extends, Receiver, Hears, Run, beginning, Step}
 use Rattle.receiver_model.specs.Policies.{Taken, brought, chosen, waiting_after, is_near, index_of, octet_for, waiting_of, replaces, octet_after}
-use Rattle.receiver_model.specs.Streams.{StreamState, IsSameStream, StandsFor, StepsWith, fresh, receiver_of, places_from, next_of, waiting_at, place_of, fin_after, is_at, first_fin, taken_of, AddsFrame, Chooses, Takes}
+use Rattle.receiver_model.specs.Streams.{StreamState, IsSameStream, StandsFor, StepsWith, fresh, receiver_of, places_from, next_of, waiting_at, place_of, first_fin, taken_of, AddsFrame, Chooses}
+use Rattle.receiver_model.specs.working.StreamSteps.{fin_after, is_at, Takes}
 use Rattle.receiver_model.specs.declared.policy.Waiting.{Waiting}
 use Rattle.receiver_model.specs.Offsets.{raised_of, offset_in, Carries, Ends}
 use Rattle.receiver_model.specs.declared.segment.Segment.{Segment as Fields}
-use Rattle.receiver_model.specs.Fields.{segment_in}
+use Rattle.receiver_model.specs.SegmentFields.{segment_in}
 use Rattle.receiver_model.specs.Monitors.{Keeps, HasDeliveredAll, TakesInOrder, TakesEach, StreamsAreMonitors}
-use Rattle.receiver_model.specs.Agreement.{TellOneStream}
-use Rattle.receiver_model.specs.Families.{FamilyState, AllStandFor, ComeInTime, EachTakes, GoesBack, StandsAs, StreamsAgree, TakesFrame}
+use Rattle.receiver_model.specs.FamilyAgreement.{TellOneStream}
+use Rattle.receiver_model.specs.Families.{FamilyState, AllStandFor, ComeInTime, EachTakes, StandsAs, StreamsAgree, TakesFrame}
+use Rattle.receiver_model.specs.working.FamilyMarks.{GoesBack}
 use Rattle.receiver_model.proofs.Members.{raised_named, named_raised, near_test, test_near, far_back, goes_there, comes_back, agrees}
 
 -- What one more segment changes of the waiting octets.

@@ -3,9 +3,8 @@ use Rattle.std.specs.Prelude.{◌≡◌, ℕ, ◌++◌, List, ◌∷◌, [], ℤ
 use Rattle.wire_base.specs.Segments.{segment_of, fields_of}
 use Rattle.receiver_model.specs.declared.policy.Policy.{Policy}
 use Rattle.receiver_model.specs.declared.policy.Policy.TheVariants.{First, Newest, Left, Right}
-use Rattle.receiver_model.specs.Agreement.{Agree}
+use Rattle.receiver_model.specs.FamilyAgreement.{Agree}
 use Rattle.receiver_model.specs.Delivery.{DeliversInTime}
-use Rattle.receiver_model.specs.Marks.{gone_back, mark_of}
 use Rattle.receiver_model.specs.Streams.{StreamState, Chooses, IsSameStream, StandsFor, StepsWith, fresh, next_of, places_from, taken_of}
 
 -- the states of the four streams
@@ -40,17 +39,6 @@ pub record EachTakes (frame : List ℕ) (before after : FamilyState) : Type 0 wh
   pub newest : TakesFrame frame before.newest after.newest
   pub left : TakesFrame frame before.left after.left
   pub right : TakesFrame frame before.right after.right
-
--- a stream that returns to its mark is as it was
-abbrev pub GoesBack : (before after : StreamState) → Type 0
-GoesBack before after = gone_back after (mark_of before) ≡ before
-
--- this holds for each of the four
-pub record EachGoesBack (before after : FamilyState) : Type 0 where
-  pub first : GoesBack before.first after.first
-  pub newest : GoesBack before.newest after.newest
-  pub left : GoesBack before.left after.left
-  pub right : GoesBack before.right after.right
 
 -- the stream with this policy, base and start is what a host at this distance makes of these
 -- frames, each delivered once and in order

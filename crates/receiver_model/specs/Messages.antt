@@ -7,7 +7,7 @@ use Rattle.wire_base.specs.Plain.{Plain}
 use Rattle.wire_base.specs.Segments.{Segment}
 use Rattle.wire_base.specs.Udp as udp
 use Rattle.receiver_model.specs.declared.member.Member.{Member}
-use Rattle.receiver_model.specs.Agreement.{IsMember}
+use Rattle.receiver_model.specs.FamilyAgreement.{IsMember}
 use Rattle.receiver_model.specs.Delivery.{Reads}
 
 -- a UDP datagram with its ports and payload, or an ICMP message with its type, its code and what

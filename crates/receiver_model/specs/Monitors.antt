@@ -9,7 +9,7 @@ use Rattle.receiver_model.specs.declared.member.Member.{Member}
 use Rattle.receiver_model.specs.declared.policy.Policy.{Policy}
 use Rattle.receiver_model.specs.Offsets.{Carries, Ends}
 use Rattle.receiver_model.specs.Delivery.{Receiver, Reads, Step, Run, DeliversInTime, beginning}
-use Rattle.receiver_model.specs.Agreement.{IsPrefixOf, IsMember, OctetAt, FinAt, TellOneStream}
+use Rattle.receiver_model.specs.FamilyAgreement.{IsPrefixOf, IsMember, OctetAt, FinAt, TellOneStream}
 use Rattle.receiver_model.specs.Streams.{StreamState, fresh, places_from, receiver_of}
 use Rattle.receiver_model.specs.Families.{TakesFrame}
 

@@ -1,6 +1,6 @@
 //! Whether two streams agree.
 ghost use Rattle.std.specs.Prelude.{◌⊎◌, ◌↔◌, IsTrue};
-ghost use Rattle.receiver_model.specs.Agreement.{Agree, IsPrefixOf};
+ghost use Rattle.receiver_model.specs.FamilyAgreement.{Agree, IsPrefixOf};
 
 fn is_prefix(a: &[u8], b: &[u8]) -> bool
     ensures { IsTrue result ↔ IsPrefixOf a.now b.now }

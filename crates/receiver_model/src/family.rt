@@ -2,8 +2,9 @@
 ghost use Rattle.std.specs.Prelude.{◌≡◌, ◌↔◌, ◌≤◌, ℕ, ℤ, List, ◌∷◌, ◌++◌, [], IsTrue, IfOk, OnOk, OnErr};
 ghost use Rattle.wire_base.specs.Ipv4 as ip;
 ghost use Rattle.wire_base.specs.Plain.{Plain};
-ghost use Rattle.receiver_model.specs.Agreement.{TellOneStream};
-ghost use Rattle.receiver_model.specs.Families.{fresh_family, stream_of, AllInTime, AllStandFor, EachGoesBack, EachTakes, EachTwoAgree, StreamsAgree};
+ghost use Rattle.receiver_model.specs.FamilyAgreement.{TellOneStream};
+ghost use Rattle.receiver_model.specs.Families.{fresh_family, stream_of, AllInTime, AllStandFor, EachTakes, EachTwoAgree, StreamsAgree};
+ghost use Rattle.receiver_model.specs.working.FamilyMarks.{EachGoesBack};
 
 use crate::agreement::agree_with_ends;
 use crate::policy::Policy;

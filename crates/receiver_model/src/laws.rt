@@ -1,9 +1,9 @@
 //! Laws over the definitions alone.
-ghost use Rattle.receiver_model.specs.Agreement.{MembersAgree};
+ghost use Rattle.receiver_model.specs.FamilyAgreement.{MembersAgree};
 ghost use Rattle.receiver_model.specs.Messages.{PlainIsReadAlike};
 ghost use Rattle.receiver_model.specs.Monitors.{MonitorsAreInTime, MonitorsMissNothing, StreamsAreMonitors};
-ghost use Rattle.receiver_model.specs.Parts.{InOrderIsInTime, MembersReadParts, MonitorsCoverParts, PartsMeet};
-ghost use Rattle.receiver_model.specs.Written.{AreRead};
+ghost use Rattle.receiver_model.specs.StreamParts.{InOrderIsInTime, MembersReadParts, MonitorsCoverParts, PartsMeet};
+ghost use Rattle.receiver_model.specs.WrittenPackets.{AreRead};
 
 /// Proves that frames which describe one stream make any two members agree.
 pub fn members_agree()

@@ -1,10 +1,10 @@
 //! Packets that every host of the family reads alike.
 ghost use Rattle.std.specs.Prelude.{◌≡◌, ◌↔◌, ◌<◌, ◌≤◌, ℕ, List, true, length, IfNone, IfSome, IsTrue};
-ghost use Rattle.ipv4_codec.specs.Header.{fields_of};
+ghost use Rattle.ipv4_codec.specs.HeaderFields.{fields_of};
 ghost use Rattle.wire_base.specs.Ipv4 as ip;
 ghost use Rattle.wire_base.specs.Options.{are_well_formed, cleaned};
 ghost use Rattle.wire_base.specs.Plain.{IsPlainHeader, IsPlainIcmp, IsPlainMessage, IsPlainTcp, IsPlainUdp, Plain, pseudo_of};
-ghost use Rattle.receiver_model.specs.Tests as test;
+ghost use Rattle.receiver_model.specs.working.FieldTests as test;
 
 use ipv4_codec::Ipv4;
 use tcp_codec::{SumRule, Tcp, clean_options};

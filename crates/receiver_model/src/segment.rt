@@ -3,7 +3,7 @@ ghost use Rattle.std.specs.Prelude.{◌≡◌, ◌≤◌, length};
 ghost use Rattle.wire_base.specs.Ipv4 as ip;
 ghost use Rattle.wire_base.specs.Plain.{Plain};
 ghost use Rattle.wire_base.specs.Segments.{fields_of};
-ghost use Rattle.receiver_model.specs.Fields.{segment_in};
+ghost use Rattle.receiver_model.specs.SegmentFields.{segment_in};
 
 use wire_base::{Addr, Flags, u16_at, u32_at};
 

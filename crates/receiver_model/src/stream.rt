@@ -4,9 +4,10 @@ ghost use Rattle.wire_base.specs.Ipv4 as ip;
 ghost use Rattle.wire_base.specs.Plain.{Plain};
 ghost use Rattle.wire_base.specs.Segments.{segment_of, fields_of};
 ghost use Rattle.receiver_model.specs.Delivery.{Extends};
-ghost use Rattle.receiver_model.specs.Marks.{gone_back, mark_of};
+ghost use Rattle.receiver_model.specs.working.StreamMarks.{gone_back, mark_of};
 ghost use Rattle.receiver_model.specs.Policies.{Taken, octet_after, waiting_after};
-ghost use Rattle.receiver_model.specs.Streams.{fresh, next_of, taken_of, AddsFrame, Chooses, IsSameStream, StandsFor, StepsWith, Takes};
+ghost use Rattle.receiver_model.specs.Streams.{fresh, next_of, taken_of, AddsFrame, Chooses, IsSameStream, StandsFor, StepsWith};
+ghost use Rattle.receiver_model.specs.working.StreamSteps.{Takes};
 
 use crate::mark::Mark;
 use crate::piece::{HALF, Piece, raised_offset};

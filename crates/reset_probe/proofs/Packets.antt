@@ -1,15 +1,15 @@
 -- The packet of a probe: its two parts in one buffer, and what is read of it again.
 use Rattle.std.proofs.Common.{◌≡◌, ℕ, ◌+◌, List, ◌++◌, length, drop, arith, ◌^◌, ◌<◌, inl, inr, refl, ap, ◌∙◌}
 use Rattle.std.proofs.lemmas.Grind.{common_steps}
-use Rattle.wire_base.specs.Sums.{pseudo_sum, sum_is_right}
+use Rattle.wire_base.specs.Checksums.{pseudo_sum, sum_is_right}
 use Rattle.wire_base.specs.Plain.{IsPlainTcp, pseudo_of}
 use Rattle.ipv4_codec.specs.declared.header.Ipv4.{Ipv4}
 use Rattle.ipv4_codec.proofs.PlainHeaders.{header-plain}
-use Rattle.tcp_codec.specs.Write as write
+use Rattle.tcp_codec.specs.WrittenSegment as write
 use Rattle.tcp_codec.proofs.Segments.{sum-written}
 use Rattle.era_state.specs.declared.probe.Probe.{Probe}
 use Rattle.wire_base.proofs.Octets.{four-octets}
-use Rattle.reset_probe.specs.Write.{ProbesArePlain, probe_octets, probe_segment}
+use Rattle.reset_probe.specs.ProbePackets.{ProbesArePlain, probe_octets, probe_segment}
 
 -- Two parts of a buffer, each written from its start.
 

@@ -1,3 +1,3 @@
 pub mod Rules
 pub mod Answers
-pub mod Write
+pub mod ProbePackets

@@ -1,5 +1,5 @@
 //! Laws of written probes.
-ghost use Rattle.reset_probe.specs.Write.{ProbesArePlain, ProbesAreSilent};
+ghost use Rattle.reset_probe.specs.ProbePackets.{ProbesArePlain, ProbesAreSilent};
 
 /// Proves that every host which a probe reaches reads it alike, for any fields and addresses.
 pub fn probes_are_plain()

@@ -3,7 +3,7 @@ ghost use Rattle.std.specs.Prelude.{◌≡◌, ◌+◌, ◌%◌, ◌^◌, ◌<�
 ghost use Rattle.wire_base.specs.Segments.{Written};
 ghost use Rattle.wire_base.specs.Tcp as tcp;
 ghost use Rattle.era_state.specs.Eras.{StandsFor};
-ghost use Rattle.era_state.specs.Read.{came};
+ghost use Rattle.era_state.specs.SegmentFields.{came};
 ghost use Rattle.era_state.specs.Offsets.{number_before};
 ghost use Rattle.reset_probe.specs.Rules.{era_probe, probe_before};
 ghost use Rattle.reset_probe.specs.Answers.{reset_answer};

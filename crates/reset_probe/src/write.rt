@@ -1,8 +1,8 @@
 //! Writing of a probe.
 ghost use Rattle.std.specs.Prelude.{◌≡◌, ◌≤◌, ◌<◌, ◌++◌, ℕ, length, drop, []};
 ghost use Rattle.wire_base.specs.Plain.{Plain};
-ghost use Rattle.tcp_codec.specs.Write.{segment_of};
-ghost use Rattle.reset_probe.specs.Write.{probe_octets, probe_segment};
+ghost use Rattle.tcp_codec.specs.WrittenSegment.{segment_of};
+ghost use Rattle.reset_probe.specs.ProbePackets.{probe_octets, probe_segment};
 
 use arrayvec::ArrayVec;
 use era_state::Probe;

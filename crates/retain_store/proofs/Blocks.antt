@@ -7,11 +7,12 @@ use Rattle.std.proofs.lemmas.List.{get_or-set_same, set-get_or, get_or-replicate
 use Rattle.std.proofs.lemmas.List.Folds.{list_any_none}
 use Rattle.std.proofs.lemmas.List.Elements.{All-replicate, All-nil, All-cons}
 use Rattle.cell_pool.specs.declared.cells.CellId.{CellId}
-use Rattle.cell_pool.specs.Lists.{Held, HasPlaceFor, IsRising, BeginsAbove, EndsBelow, last_id, Lists, TakesAfter, chain_at, with_chain, empty_cell}
+use Rattle.cell_pool.specs.ChainLists.{Held, HasPlaceFor, IsRising, BeginsAbove, EndsBelow, last_id, Lists, TakesAfter, chain_at, with_chain, empty_cell}
 use Rattle.cell_pool.proofs.Chains.{IsRising-more}
 use Rattle.retain_store.specs.Maps.{IsFull, block_at, holds, octet_at, Block, Store, IsMap, ChangesOnly, chain_of, with_blocks, IsRising as AreRising}
-use Rattle.retain_store.specs.Seats.{AllFull, blocks_of, IsAt, IsCellOf, IsKept, IsNear, blocks_in, block_of, store_of}
-use Rattle.retain_store.specs.Changes.{IsChanged}
+use Rattle.retain_store.specs.working.BlockCells.{AllFull, IsAt, IsCellOf, IsKept, IsNear, blocks_in}
+use Rattle.retain_store.specs.PoolBlocks.{blocks_of, block_of, store_of}
+use Rattle.retain_store.specs.working.PoolChanges.{IsChanged}
 
 -- The octets of a chain at a block number, if the cells of the chain are known.
 

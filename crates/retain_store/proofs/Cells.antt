@@ -4,9 +4,10 @@ use Rattle.std.proofs.Common.{◌≡◌, ℕ, ◌+◌, ◌<◌, ◌≤◌, ◌�
 use Rattle.std.proofs.lemmas.Bool.{cases_eq, cases_lt}
 use Rattle.std.proofs.lemmas.List.{get_or-set_same, set-get_or, set-set}
 use Rattle.cell_pool.specs.declared.cells.CellId.{CellId}
-use Rattle.cell_pool.specs.Lists.{Lists, Held, HasPlaceFor, BeginsAbove, EndsBelow, chain_at, first_id, last_id, Stands, StandsUpTo, IsHeld, IsRising, IsBlank, Writes, with_chain}
+use Rattle.cell_pool.specs.ChainLists.{Lists, Held, HasPlaceFor, BeginsAbove, EndsBelow, chain_at, first_id, last_id, Stands, StandsUpTo, IsHeld, IsRising, IsBlank, Writes, with_chain}
 use Rattle.cell_pool.proofs.KnownChains.{last_id-push, EndsBelow-push}
-use Rattle.retain_store.specs.Seats.{IsAt, IsAmong, IsCellOf, IsWalk, blocks_of}
+use Rattle.retain_store.specs.working.BlockCells.{IsAt, IsAmong, IsCellOf, IsWalk}
+use Rattle.retain_store.specs.PoolBlocks.{blocks_of}
 use Rattle.retain_store.specs.Maps.{Block, block_at, octet_at, IsWithin}
 use Rattle.retain_store.proofs.Blocks.{found_in, missing_at}
 

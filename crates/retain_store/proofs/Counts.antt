@@ -6,9 +6,10 @@ use Rattle.std.proofs.lemmas.List.{map-id, get_or_default}
 use Rattle.std.proofs.lemmas.List.FromFn.{length-range_with_len, map-range_with_len_more}
 use Rattle.std.proofs.lemmas.Bool.{cases_eq, and_parts}
 use Rattle.std.proofs.lemmas.List.Folds.{Any-from_list_any}
-use Rattle.cell_pool.specs.Lists.{Held, IsRising, BeginsAbove}
+use Rattle.cell_pool.specs.ChainLists.{Held, IsRising, BeginsAbove}
 use Rattle.retain_store.specs.Maps.{Block, IsFull, IsWithin, block_at, holds, octet_at}
-use Rattle.retain_store.specs.Seats.{AllFull, IsKept, blocks_of}
+use Rattle.retain_store.specs.working.BlockCells.{AllFull, IsKept}
+use Rattle.retain_store.specs.PoolBlocks.{blocks_of}
 use Rattle.retain_store.proofs.Blocks.{begins, skips, none_above}
 
 -- Counts over consecutive numbers.

@@ -7,12 +7,13 @@ use Rattle.std.proofs.lemmas.Bool.Decides.{nat_tests}
 use Rattle.std.proofs.lemmas.List.{get_or_append_left, get_or-append_right, get_or-replicate, get_or-drop, get_or_past, length-replicate}
 use Rattle.std.proofs.lemmas.List.Elements.{All-nil, All-cons}
 use Rattle.cell_pool.specs.declared.cells.CellId.{CellId}
-use Rattle.cell_pool.specs.Lists.{Lists, Held, IsRising, HasCellAfter, GivesBackAfter, chain_at, with_chain, first_id, BeginsAbove, Wherever, Writes, without_below}
+use Rattle.cell_pool.specs.ChainLists.{Lists, Held, IsRising, HasCellAfter, GivesBackAfter, chain_at, with_chain, first_id, BeginsAbove, Wherever, Writes, without_below}
 use Rattle.cell_pool.proofs.Chains.{IsRising-octets}
 use Rattle.cell_pool.proofs.Bits.{is_none_of}
 use Rattle.retain_store.specs.Maps.{block_at, ForgetsBelow, Block, octet_at}
-use Rattle.retain_store.specs.Seats.{blocks_of, blocks_in, AllFull, IsAt, IsKept}
-use Rattle.retain_store.specs.Changes.{IsAmongAbove, IsAbove, IsChanged, KeepsAbove, begins_below, Forgets}
+use Rattle.retain_store.specs.PoolBlocks.{blocks_of}
+use Rattle.retain_store.specs.working.BlockCells.{blocks_in, AllFull, IsAt, IsKept}
+use Rattle.retain_store.specs.working.PoolChanges.{IsAmongAbove, IsAbove, IsChanged, KeepsAbove, begins_below, Forgets}
 use Rattle.retain_store.proofs.Blocks.{skips, none_above, chain_is, changed_by, begins, unchanged}
 use Rattle.retain_store.proofs.Cells.{stands}
 use Rattle.retain_store.proofs.Segments.{inside_then, changed_then}

@@ -8,9 +8,10 @@ use Rattle.std.proofs.lemmas.List.Edits.{get_or-between, length-between}
 use borrow.Rule.Slice.PartMut.{put_mid}
 use Rattle.cell_pool.proofs.Runs.{length-put, put_before, put_inside, put_behind}
 use Rattle.cell_pool.specs.declared.cells.CellId.{CellId}
-use Rattle.cell_pool.specs.Lists.{Lists, Held, HasPlaceFor, IsRising, IsBlank, IsCovered, IsHeldWith, StandsFrom, Wherever, chain_at}
+use Rattle.cell_pool.specs.ChainLists.{Lists, Held, HasPlaceFor, IsRising, IsBlank, IsCovered, IsHeldWith, StandsFrom, Wherever, chain_at}
 use Rattle.retain_store.specs.Maps.{Block, octet_at, Agrees, Settles, block_at, fresh, Covers}
-use Rattle.retain_store.specs.Seats.{blocks_of, blocks_in, IsCellOf}
+use Rattle.retain_store.specs.PoolBlocks.{blocks_of}
+use Rattle.retain_store.specs.working.BlockCells.{blocks_in, IsCellOf}
 use Rattle.retain_store.proofs.Cells.{stands}
 use Rattle.retain_store.proofs.Blocks.{found_in, missing_at}
 use Rattle.retain_store.proofs.Counts.{all_counted, none_counted, count_agree, count_most, parts}

@@ -11,13 +11,13 @@ use borrow.Rule.Slice.PartMut.{put_mid}
 use Rattle.std.specs.List.{list_any}
 use Rattle.std.proofs.Math.Bool.{or-false}
 use Rattle.std.proofs.lemmas.List.Folds.{list_any_at}
-use Rattle.cell_pool.specs.Lists.{with_run, IsBlank, IsCovered, Lists, Held, HasPlaceFor, IsRising, TakesAfter, Writes, chain_at, empty_cell, with_chain}
+use Rattle.cell_pool.specs.ChainLists.{with_run, IsBlank, IsCovered, Lists, Held, HasPlaceFor, IsRising, TakesAfter, Writes, chain_at, empty_cell, with_chain}
 use Rattle.cell_pool.proofs.Runs.{run_is, length-put, put_before, put_inside, put_behind}
 use Rattle.cell_pool.specs.declared.cells.CellId.{CellId}
 use Rattle.cell_pool.proofs.Chains.{IsRising-octets}
 use Rattle.retain_store.specs.Maps.{Block, Places, octet_at, octet_in, IsFull, block_at, holds}
-use Rattle.retain_store.specs.Changes.{with_octet, with_octets, IsChanged, PlacesPiece}
-use Rattle.retain_store.specs.Seats.{blocks_in, AllFull, IsCellOf, IsKept}
+use Rattle.retain_store.specs.working.PoolChanges.{with_octet, with_octets, IsChanged, PlacesPiece}
+use Rattle.retain_store.specs.working.BlockCells.{blocks_in, AllFull, IsCellOf, IsKept}
 use Rattle.retain_store.proofs.Cells.{stands}
 use Rattle.retain_store.proofs.Blocks.{found_in, full_more, other_in, Opens, chain_is, changed_by, no_octet, opened_cell, opens_found, opens_taken}
 

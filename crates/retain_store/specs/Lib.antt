@@ -1,3 +1,3 @@
 pub mod Maps
-pub mod Seats
-pub mod Changes
+pub mod PoolBlocks
+pub mod working

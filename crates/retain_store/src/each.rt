@@ -1,8 +1,8 @@
 //! Reads octet by octet, for ranges in which only some offsets have an octet.
 ghost use Rattle.std.specs.Prelude.{◌≡◌, ◌+◌, ◌-◌, ◌<◌, ◌≤◌, ◌^◌, ◌↔◌, false, length, IsTrue};
-ghost use Rattle.cell_pool.specs.Lists.{chain_at, IsRising};
+ghost use Rattle.cell_pool.specs.ChainLists.{chain_at, IsRising};
 ghost use Rattle.retain_store.specs.Maps.{fresh, Agrees, Settles};
-ghost use Rattle.retain_store.specs.Seats.{blocks_in, IsNear};
+ghost use Rattle.retain_store.specs.working.BlockCells.{blocks_in, IsNear};
 
 use crate::seat::look;
 use cell_pool::{CellId, ChainId, Pool};

@@ -1,9 +1,9 @@
 //! Removal of octets from a chain.
 ghost use Rattle.std.specs.Prelude.{◌≡◌, ◌+◌, ◌*◌, ◌<◌, ◌/◌, [], false, length};
-ghost use Rattle.cell_pool.specs.Lists.{chain_at};
+ghost use Rattle.cell_pool.specs.ChainLists.{chain_at};
 ghost use Rattle.retain_store.specs.Maps.{ForgetsBelow};
-ghost use Rattle.retain_store.specs.Seats.{blocks_in, IsKept, IsNear};
-ghost use Rattle.retain_store.specs.Changes.{begins_below, IsAbove, Forgets, IsChanged};
+ghost use Rattle.retain_store.specs.working.BlockCells.{blocks_in, IsKept, IsNear};
+ghost use Rattle.retain_store.specs.working.PoolChanges.{begins_below, IsAbove, Forgets, IsChanged};
 
 use crate::seat::place_of;
 use cell_pool::{CellId, ChainId, Pool};

@@ -22,7 +22,6 @@
 mod each;
 mod forgets;
 mod reads;
-mod runs;
 mod seat;
 mod store;
 mod writes;

@@ -1,7 +1,7 @@
 //! The position of a block in a chain of the pool.
 ghost use Rattle.std.specs.Prelude.{◌≡◌, ◌<◌, ◌%◌, length, IsTrue, Some};
-ghost use Rattle.cell_pool.specs.Lists.{chain_at, first_id, IsRising};
-ghost use Rattle.retain_store.specs.Seats.{blocks_in, IsNear, IsSeat, IsWalk};
+ghost use Rattle.cell_pool.specs.ChainLists.{chain_at, first_id, IsRising};
+ghost use Rattle.retain_store.specs.working.BlockCells.{blocks_in, IsNear, IsSeat, IsWalk};
 ghost use Rattle.retain_store.specs.Maps.{octet_at, IsWithin};
 
 use cell_pool::{CellId, ChainId, Pool};

@@ -5,8 +5,9 @@ ghost use Rattle.retain_store.specs.Maps.{chain_of, has_octet, holds, octet_at, 
 
 use crate::each::count_each;
 use crate::forgets::{forget_before, forget_chain};
-use crate::reads::{agrees_all, blocks_touched, copy, count_missing, covers_all, settle_all};
-use crate::runs::repeats_piece;
+use crate::reads::{
+    agrees_all, blocks_touched, copy, count_missing, covers_all, repeats_piece, settle_all,
+};
 use crate::seat::ends_before;
 use crate::writes::place_all;
 use cell_pool::{CellId, ChainId, Pool};
@@ -34,7 +35,8 @@ pub struct Retain {
 
 impl Model for Retain {
     ghost use Rattle.retain_store.specs.Maps.{Store};
-    ghost use Rattle.retain_store.specs.Seats.{store_of, IsSound};
+    ghost use Rattle.retain_store.specs.PoolBlocks.{store_of};
+    ghost use Rattle.retain_store.specs.working.BlockCells.{IsSound};
 
     ghost Value = { Store };
 

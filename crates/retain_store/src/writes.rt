@@ -1,9 +1,9 @@
 //! Additions to a chain.
 ghost use Rattle.std.specs.Prelude.{◌≡◌, ℕ, ◌+◌, ◌-◌, ◌<◌, ◌≤◌, ◌/◌, ◌%◌, ◌^◌, Some, true, length};
-ghost use Rattle.cell_pool.specs.Lists.{chain_at, HasPlaceFor, IsHeld, IsRising, Writes};
+ghost use Rattle.cell_pool.specs.ChainLists.{chain_at, HasPlaceFor, IsHeld, IsRising, Writes};
 ghost use Rattle.retain_store.specs.Maps.{fresh, holds, missing, Places};
-ghost use Rattle.retain_store.specs.Seats.{blocks_in, IsCellOf, IsKept, IsNear};
-ghost use Rattle.retain_store.specs.Changes.{with_octet, with_octets, IsChanged, PlacesPiece};
+ghost use Rattle.retain_store.specs.working.BlockCells.{blocks_in, IsCellOf, IsKept, IsNear};
+ghost use Rattle.retain_store.specs.working.PoolChanges.{with_octet, with_octets, IsChanged, PlacesPiece};
 
 use crate::each::count_each;
 use crate::seat::{Seat, place_of, seek};

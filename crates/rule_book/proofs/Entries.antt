@@ -6,18 +6,17 @@ use Rattle.std.specs.List.{AllByRecursion, after_first, before_first, flat_map}
 use Rattle.std.proofs.lemmas.List.Concat.{flat_map-append}
 use Rattle.std.proofs.lemmas.List.Folds.{flat_map-map}
 use Rattle.rule_book.specs.Entries.{PlainEntry}
-use Rattle.rule_book.specs.Reports.{EntryFits, EndedFits, LastFits}
+use Rattle.rule_book.specs.ReportReading.{EntryFits, EndedFits, LastFits}
 use Rattle.rule_book.specs.Rules.{rule_name}
 use Rattle.rule_book.specs.Text.{part, ended_part, entry_text, era_part, rule_parts, side_word, verdict_word, ended_word, octets_part, reason_word, last_text, stop_word}
-use Rattle.rule_book.specs.Words.{Awaits, HasRoom, Mark, MarkFits, joined, mark_word, with_mark, with_marks, HasWords, bare, HasParts, octets_word, HasLastWords}
-use Rattle.rule_book.specs.Words.Mark.{named, belongs, began, over}
+use Rattle.rule_book.specs.working.LineWords.{Awaits, HasRoom, Mark, MarkFits, joined, mark_word, with_mark, with_marks, HasWords, bare, HasParts, octets_word, HasLastWords}
+use Rattle.rule_book.specs.working.LineWords.Mark.{named, belongs, began, over}
 use Rattle.rule_book.specs.declared.rule.Rule.{Rule}
 use Rattle.rule_book.specs.declared.entry.Ended.{Ended}
 use Rattle.rule_book.specs.declared.entry.Reason.{Reason}
 use Rattle.rule_book.specs.declared.last.Last.{Last}
 use Rattle.rule_book.specs.declared.last.Last.TheVariants.{End, Stop}
-use Rattle.rule_book.proofs.Lines.{after_in, after_past, before_in, before_past, is_solid, mark-solid, solid-has_no, has_no, has_no-append, decimal-solid, side-solid, verdict-solid, decimal-no_colon, reason-no_colon, IsLine, stop-solid}
-use Rattle.rule_book.proofs.Lists.{all-append}
+use Rattle.rule_book.proofs.Lines.{after_in, after_past, before_in, before_past, is_solid, mark-solid, solid-has_no, has_no, has_no-append, decimal-solid, side-solid, verdict-solid, decimal-no_colon, reason-no_colon, IsLine, stop-solid, all-append}
 
 -- An entry's words, read one after another.
 

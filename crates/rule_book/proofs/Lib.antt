@@ -2,5 +2,4 @@ pub mod Lines
 pub mod Numbers
 pub mod Entries
 pub mod Unique
-pub mod Lists
 pub mod Reports

@@ -4,17 +4,17 @@ use Rattle.std.proofs.Common.{◌≡◌, ℕ, ◌+◌, true, inl, inr, List, [],
 use Rattle.std.proofs.lemmas.List.{reverse-append, length_push, map-append}
 use Rattle.std.proofs.lemmas.List.Folds.{concat-append}
 use Rattle.std.specs.List.{AllByRecursion, concat, flat_map, range_with_len}
-use Rattle.rule_book.specs.Reports.{IsVersion, PlainReport, EntryFits, IsEntryOf, TextsAreInOrder, IsReport, lines, lines_of, text_of, IsReadTo, BeginsAmiss, TextsDiffer, HasFault, LastFits, plain_report}
+use Rattle.rule_book.specs.ReportReading.{IsVersion, PlainReport, EntryFits, IsEntryOf, TextsAreInOrder, IsReport, lines, text_of, IsReadTo, BeginsAmiss, TextsDiffer, HasFault, LastFits, plain_report}
+use Rattle.rule_book.specs.working.ReportLines.{lines_of}
 use Rattle.rule_book.specs.Text.{first_line, entry_text, last_text, lines_text}
 use Rattle.rule_book.specs.Entries.{PlainEntry}
-use Rattle.rule_book.specs.Words.{joined}
+use Rattle.rule_book.specs.working.LineWords.{joined}
 use Rattle.rule_book.specs.declared.report.Report.{Report}
 use Rattle.rule_book.specs.declared.fault.LineFault.{LineFault}
 use Rattle.rule_book.specs.declared.fault.LineFault.TheVariants.{First, Shape, Number, NoMemory}
 use Rattle.rule_book.specs.declared.last.Last.{Last}
-use Rattle.rule_book.proofs.Lines.{has_no, IsLine, concat-lines, lines-concat}
+use Rattle.rule_book.proofs.Lines.{has_no, IsLine, concat-lines, lines-concat, all-append}
 use Rattle.rule_book.proofs.Entries.{last-line, entry_text-joined, joined-no_feed, words-solid, words_of}
-use Rattle.rule_book.proofs.Lists.{all-append}
 use Rattle.rule_book.proofs.Unique.{entry_no_last, entry_one, last_one}
 
 -- The versions of the report, and the first line of each.

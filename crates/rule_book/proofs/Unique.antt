@@ -9,10 +9,10 @@ use Rattle.wire_base.specs.declared.address.Side.{Side}
 use Rattle.rule_book.specs.Rules.{FoundByName, all_rules, rule_name, rule_named}
 use Rattle.rule_book.specs.declared.rule.Rule.{Rule}
 use Rattle.rule_book.specs.Entries.{PlainEntry}
-use Rattle.rule_book.specs.Reports.{EndedFits, EntryFits, LastFits}
+use Rattle.rule_book.specs.ReportReading.{EndedFits, EntryFits, LastFits}
 use Rattle.rule_book.specs.Text.{ended_word, entry_text, last_text, part, reason_word, side_word, stop_word, verdict_word}
-use Rattle.rule_book.specs.Words.{HasLastWords, HasWords, Mark, MarkFits, bare, joined, mark_word, octets_word, with_marks}
-use Rattle.rule_book.specs.Words.Mark.{named, belongs, began, over}
+use Rattle.rule_book.specs.working.LineWords.{HasLastWords, HasWords, Mark, MarkFits, bare, joined, mark_word, octets_word, with_marks}
+use Rattle.rule_book.specs.working.LineWords.Mark.{named, belongs, began, over}
 use Rattle.rule_book.specs.declared.entry.Ended.{Ended}
 use Rattle.rule_book.specs.declared.entry.Reason.{Reason}
 use Rattle.rule_book.specs.declared.entry.Verdict.{Verdict}
@@ -20,8 +20,7 @@ use Rattle.rule_book.specs.declared.last.Last.{Last}
 use Rattle.rule_book.specs.declared.last.Last.TheVariants.{End, Stop}
 use Rattle.rule_book.specs.declared.last.StopKind.{StopKind}
 use Rattle.rule_book.proofs.Entries.{parts_at, last_words_at, joined_after, joined_before, mark_some, words_at}
-use Rattle.rule_book.proofs.Lists.{same_some}
-use Rattle.rule_book.proofs.Lines.{decimal_digits, mark-solid}
+use Rattle.rule_book.proofs.Lines.{same_some, decimal_digits, mark-solid}
 
 -- A rule is found by its name.
 

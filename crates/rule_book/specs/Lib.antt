@@ -1,7 +1,6 @@
 pub mod Entries
-pub mod Lines
-pub mod Loads
-pub mod Reports
+pub mod LoadText
+pub mod ReportReading
 pub mod Rules
 pub mod Text
-pub mod Words
+pub mod working

@@ -63,10 +63,6 @@ ended_word ended = decimal ended.era ++ 58 ∷ (reason_word ended.reason ++ octe
 abbrev pub ended_part : Ended → List ℕ
 ended_part ended = part (45 ∷ ended_word ended)
 
--- the text of the four words that each line begins with
-abbrev pub front_text : PlainEntry → List ℕ
-front_text entry = decimal entry.number ++ part (side_word entry.side) ++ part (verdict_word entry.verdict) ++ part (decimal entry.packets)
-
 -- the line of an entry, in each version, since the octets of an ended era are written exactly if it
 -- has them
 abbrev pub entry_text : PlainEntry → List ℕ

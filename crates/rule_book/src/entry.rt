@@ -2,8 +2,9 @@
 ghost use Rattle.std.specs.Prelude.{◌≡◌, ◌+◌, ◌*◌, ◌≤◌, [], ◌∷◌, ◌++◌, length, take};
 ghost use Rattle.std.specs.List.{flat_map};
 ghost use Rattle.rule_book.specs.Entries.{IsOfVersion, plain};
-ghost use Rattle.rule_book.specs.Lines.{Adds};
+ghost use Rattle.rule_book.specs.working.LineBuffers.{Adds};
 ghost use Rattle.rule_book.specs.Text as text;
+ghost use Rattle.rule_book.specs.working.LineFronts as text_working;
 ghost use Rattle.rule_book.specs.declared.entry.Reason.{Reason};
 ghost use Rattle.rule_book.specs.declared.entry.Verdict.{Verdict};
 
@@ -138,7 +139,7 @@ pub(crate) fn line_of(entry: &Entry, buf: &mut [u8]) -> usize
 fn put_front(line: &mut Line<'_>, entry: &Entry)
     requires { line.old.len + 24 ≤ length line.old.buf.now }
     ensures same_buffer { line.new.buf.ghost_name ≡ line.old.buf.ghost_name }
-    ensures adds { Adds line.old line.new (text.front_text (plain entry.now)) }
+    ensures adds { Adds line.old line.new (text_working.front_text (plain entry.now)) }
     ensures bound { line.new.len ≤ line.old.len + 23 }
 {
     line.number(entry.number);

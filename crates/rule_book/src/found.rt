@@ -2,9 +2,9 @@
 //! parsed leniently, and the result is returned only if its text is exactly this line.
 ghost use Rattle.std.specs.Prelude.{◌≡◌, ◌≢◌, ◌↔◌, ℕ, ◌^◌, ◌<◌, List, [], ◌∷◌, ◌++◌, decimal, Option, Some, None, IfSome, IsSome, IsSomeAnd, IsTrue, MatchOption};
 ghost use Rattle.rule_book.specs.Entries.{IsOfVersion, PlainEntry, plain};
-ghost use Rattle.rule_book.specs.Reports.{EndedFits, EntryFits, IsEntryOf, LastFits};
+ghost use Rattle.rule_book.specs.ReportReading.{EndedFits, EntryFits, IsEntryOf, LastFits};
 ghost use Rattle.rule_book.specs.Text.{ended_word, entry_text, last_text, side_word};
-ghost use Rattle.rule_book.specs.Words.{Awaits, HasLastWords, HasParts, HasRoom, HasWords, Mark, MarkFits, mark_word, with_mark};
+ghost use Rattle.rule_book.specs.working.LineWords.{Awaits, HasLastWords, HasParts, HasRoom, HasWords, Mark, MarkFits, mark_word, with_mark};
 ghost use Rattle.rule_book.specs.declared.entry.Ended.{Ended};
 ghost use Rattle.rule_book.specs.declared.last.Last.{Last};
 ghost use Rattle.wire_base.specs.declared.address.Side.{Side};

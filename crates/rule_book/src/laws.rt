@@ -1,6 +1,6 @@
 //! Laws of the table of rules, and of the text of a report.
 ghost use Rattle.std.specs.Prelude.{◌++◌};
-ghost use Rattle.rule_book.specs.Reports.{EntriesDiffer, LastsDiffer, TextsAreInOrder, TextsDiffer};
+ghost use Rattle.rule_book.specs.ReportReading.{EntriesDiffer, LastsDiffer, TextsAreInOrder, TextsDiffer};
 ghost use Rattle.rule_book.specs.Rules.{FoundByName, FoundByNumber, ListsAreTheTable, NamesDiffer, NumbersDiffer, Rises, RisesButForQuota, cut_rows, drop_rows, fix_rows, step_rows};
 
 /// States that each rule is found by its number, and that no two rules have the same number.

@@ -17,7 +17,6 @@
 //! of testing; no rule has the number 59.
 #![tactic(auto)]
 
-mod digits;
 pub mod entry;
 pub mod fault;
 mod found;
@@ -25,7 +24,6 @@ pub mod last;
 pub mod laws;
 mod line;
 pub mod load;
-mod puts;
 pub mod report;
 pub mod rule;
 mod words;

@@ -1,10 +1,9 @@
 //! A line of text in a buffer, written from its front.
 ghost use Rattle.std.specs.Prelude.{◌≡◌, ◌+◌, ◌<◌, ◌≤◌, [], ◌∷◌, length, decimal};
-ghost use Rattle.rule_book.specs.Lines.{Adds};
+ghost use Rattle.rule_book.specs.working.LineBuffers.{Adds, Puts};
 ghost use Rattle.rule_book.specs.Text.{part};
 
-use crate::digits::put_decimal;
-use crate::puts::{put, put_octet, put_word};
+use itoa::write_digits;
 
 /// A line of text: the first `len` octets of a buffer.
 #[derive(Drop)]
@@ -126,4 +125,74 @@ impl<'a> Line<'a> {
         self.octet(b' ');
         self.long_number(number);
     }
+}
+
+// Writes octets from offset `at` on. Returns the offset after them.
+#[inline]
+fn put(buf: &mut [u8], at: usize, piece: &[u8]) -> usize
+    requires { at + length piece.now ≤ length buf.old }
+    ensures { Puts buf.old buf.new at result piece.now }
+{
+    let end = at + piece.len();
+    buf[at..end].copy_from_slice(piece);
+    end
+}
+
+// Writes one octet at offset `at`. Returns the offset after it.
+#[inline]
+fn put_octet(buf: &mut [u8], at: usize, octet: u8) -> usize
+    requires { at < length buf.old }
+    ensures { Puts buf.old buf.new at result (octet ∷ []) }
+{
+    buf[at] = octet;
+    at + 1
+}
+
+// Writes a word from offset `at` on. Returns the offset after it. A word of 4 to 16 octets takes
+// two copies of constant size and no call.
+#[inline]
+fn put_word(buf: &mut [u8], at: usize, word: &[u8]) -> usize
+    requires { at + length word.now ≤ length buf.old }
+    ensures { Puts buf.old buf.new at result word.now }
+{
+    match word.len() {
+        4..=8 => put_by_ends(buf, at, word, 4),
+        9..=16 => put_by_ends(buf, at, word, 8),
+        _ => put(buf, at, word),
+    }
+}
+
+// Writes the first `part` and the last `part` octets of a word, which may overlap. Returns the
+// offset after the word.
+#[inline(always)]
+fn put_by_ends(buf: &mut [u8], at: usize, word: &[u8], part: usize) -> usize
+    requires part { part ≤ length word.now }
+    requires whole { length word.now ≤ part + part }
+    requires room { at + length word.now ≤ length buf.old }
+    ensures { Puts buf.old buf.new at result word.now }
+{
+    let rest = word.len() - part;
+    put(buf, at, &word[..part]);
+    put(buf, at + rest, &word[rest..])
+}
+
+// Writes the digits of a number from offset `at` on. Returns the offset after them.
+fn put_decimal(buf: &mut [u8], at: usize, number: u64) -> usize
+    requires { at + length (decimal number) ≤ length buf.old }
+    ensures { Puts buf.old buf.new at result (decimal number) }
+{
+    let end = at + digits_of(number);
+    write_digits(number, buf, end);
+    end
+}
+
+// Returns how many decimal digits a number has.
+#[tactic(auto, using(crate::proofs::Numbers::digit_counts))]
+fn digits_of(number: u64) -> usize
+    ensures { result ≡ length (decimal number) }
+{
+    if number < 10 {
+        return 1;
+    }
+    number.ilog10() as usize + 1
 }

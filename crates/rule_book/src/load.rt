@@ -1,6 +1,6 @@
 //! The lines of the summary of a load.
 ghost use Rattle.std.specs.Prelude.{◌≡◌, ◌≤◌, length, take};
-ghost use Rattle.rule_book.specs.Loads.{load_text};
+ghost use Rattle.rule_book.specs.LoadText.{load_text};
 
 use crate::Rule;
 use crate::line::Line;

@@ -1,6 +1,7 @@
 //! A report, parsed from its text.
 ghost use Rattle.std.specs.Prelude.{◌≡◌, ◌≢◌, ◌⊎◌, ◌↔◌, ◌<◌, [], ◌∷◌, length, IfErr, IfOk, List, ℕ, MatchOption, MatchResult};
-ghost use Rattle.rule_book.specs.Reports.{PlainReport, HasFault, IsReport, IsVersion, lines, lines_of, plain_report, text_of};
+ghost use Rattle.rule_book.specs.ReportReading.{PlainReport, HasFault, IsReport, IsVersion, lines, plain_report, text_of};
+ghost use Rattle.rule_book.specs.working.ReportLines.{lines_of};
 ghost use Rattle.rule_book.specs.Text.{first_line};
 ghost use Rattle.rule_book.specs.declared.fault.LineFault.{LineFault};
 

@@ -6,22 +6,22 @@ use Rattle.pcap_file.specs.declared.head.Head.{Head}
 use Rattle.pcap_file.specs.Records.{Packet, record_octets}
 use Rattle.pcap_file.specs.Capture.{ReadsTo, IsCapture}
 use Rattle.rule_book.specs.Entries.{PlainEntry, IsOfVersion}
-use Rattle.rule_book.proofs.Lists.{all-append}
+use Rattle.rule_book.proofs.Lines.{all-append}
 use Rattle.wire_base.specs.declared.address.Link.{Link}
-use Rattle.pcap_file.specs.declared.order.Order.{Order}
-use Rattle.pcap_file.specs.declared.order.Order.TheVariants.{Little, Big}
-use Rattle.pcap_file.specs.Heads.{head_octets}
-use Rattle.pcap_file.specs.Laws.{HeadIsReadBack, RecordIsReadBack}
-use Rattle.rule_book.specs.Reports.{EntryFits, IsEntryOf, IsReadTo, AreNumbered}
+use Rattle.pcap_file.specs.declared.record.Order.{Order}
+use Rattle.pcap_file.specs.declared.record.Order.TheVariants.{Little, Big}
+use Rattle.pcap_file.specs.FileHead.{head_octets}
+use Rattle.pcap_file.specs.FileLaws.{HeadIsReadBack, RecordIsReadBack}
+use Rattle.rule_book.specs.ReportReading.{EntryFits, IsEntryOf, IsReadTo, AreNumbered}
 use Rattle.rule_book.specs.Text.{entry_text, first_line, report_text}
 use Rattle.rule_book.proofs.Reports.{read_more}
-use Rattle.norm_settings.specs.Settings.{PlainSettings}
+use Rattle.norm_settings.specs.SettingValues.{PlainSettings}
 use Rattle.norm_engine.specs.Items.{Item, entries}
-use Rattle.norm_engine.specs.Laws.{IsSound, ItemsAreCounted}
+use Rattle.norm_engine.specs.TraceLaws.{IsSound, ItemsAreCounted}
 use Rattle.norm_engine.proofs.ItemFrames.{none_before}
-use Rattle.run_audit.specs.Audits.{frames_of}
-use Rattle.run_audit.specs.Lawful.{EntriesFit, FitsFiles, ItemsAreWrittenInOrder, RecordFits, LawfulIsYes, WrittenIsYes, capture_written, entries_written, frames_written, last_written, record_with, records_octets, records_written, report_written}
-use Rattle.run_audit.specs.Reported.{IsFinished}
+use Rattle.run_audit.specs.CaptureFindings.{frames_of}
+use Rattle.run_audit.specs.LawfulFiles.{EntriesFit, FitsFiles, ItemsAreWrittenInOrder, RecordFits, LawfulIsYes, WrittenIsYes, capture_written, entries_written, frames_written, last_written, record_with, records_octets, records_written, report_written}
+use Rattle.run_audit.specs.ReportFindings.{IsFinished}
 
 -- the records are read back
 

@@ -12,14 +12,14 @@ use Rattle.wire_base.specs.Plain.{Plain}
 use Rattle.wire_base.specs.Segments.{Segment, Written, fields_of, segment_of, written_of}
 use Rattle.era_state.specs.Quantities.{base_of}
 use Rattle.receiver_model.specs.declared.segment.Segment.{Segment as Fields}
-use Rattle.receiver_model.specs.Fields.{segment_in}
+use Rattle.receiver_model.specs.SegmentFields.{segment_in}
 use Rattle.tcp_codec.specs.declared.header.Tcp.{Tcp}
-use Rattle.era_agreement.specs.Sent.{Sent, written_as, segments_in, written_in, is_era}
+use Rattle.era_agreement.specs.SentPackets.{Sent, written_as, segments_in, written_in, is_era}
 use Rattle.receiver_model.proofs.Streams.{segment_is}
 use Rattle.era_state.specs.Emission.{AreEmitted}
-use Rattle.era_state.specs.Emitted.{EmittedOctetsArePlaces}
-use Rattle.era_state.specs.Marks.{acknowledges}
-use Rattle.era_state.specs.Silence.{IsSilent, SilenceChangesNothing}
+use Rattle.era_state.specs.EmissionLaws.{EmittedOctetsArePlaces}
+use Rattle.era_state.specs.SegmentMarks.{acknowledges}
+use Rattle.era_state.specs.SilentSegments.{IsSilent, SilenceChangesNothing}
 use Rattle.era_state.proofs.Quantities.{any_push}
 use Rattle.era_agreement.specs.Agreement.{IsSilentPacket}
 use Rattle.era_agreement.proofs.Streams.{EraLaws}
@@ -27,12 +27,12 @@ use Rattle.run_audit.specs.declared.answer.Reason.{Reason}
 use Rattle.run_audit.specs.declared.answer.Reason.TheVariants as reasons
 use Rattle.run_audit.specs.declared.ledger.Inward.{Inward as Came}
 use Rattle.run_audit.specs.declared.ledger.Ledger.{Ledger}
-use Rattle.run_audit.specs.Faults.{is_segment, IsWellRead, IsWellReadAs, IsFirstReason, IsFaultless, in_stream, lacks_base, has_other_syn, has_other_octet, has_other_fin, in_stream_as}
-use Rattle.run_audit.specs.Frames.{Frame, is_based, is_inward, sent}
-use Rattle.run_audit.specs.Ledgers.{IsInward, IsOutward, IsVerdict, StandsFor, counted, stream_reason}
-use Rattle.run_audit.specs.Eras.{Eras, EraStands, AllStandFor, AreThere, IsTaken, Takes, IsNoted, IsJudged}
-use Rattle.run_audit.specs.Read.{IsSegment}
-use Rattle.run_audit.specs.Emitted.{Marked, IsCertain, NoneAcksUnbased, AreWritten, EmittedHasNoFault, frames_in, sent_as}
+use Rattle.run_audit.specs.FrameFaults.{is_segment, IsWellRead, IsWellReadAs, IsFirstReason, IsFaultless, in_stream, lacks_base, has_other_syn, has_other_octet, has_other_fin, in_stream_as}
+use Rattle.run_audit.specs.OwnedFrames.{Frame, is_based, is_inward, sent}
+use Rattle.run_audit.specs.working.EraLedgers.{IsInward, IsOutward, IsVerdict, StandsFor, counted, stream_reason}
+use Rattle.run_audit.specs.working.EraTable.{Eras, EraStands, AllStandFor, AreThere, IsTaken, Takes, IsNoted, IsJudged}
+use Rattle.run_audit.specs.working.OutwardFields.{IsSegment}
+use Rattle.run_audit.specs.EmittedFrames.{Marked, IsCertain, NoneAcksUnbased, AreWritten, EmittedHasNoFault, frames_in, sent_as}
 use Rattle.run_audit.specs.FirstFault.{AreFaultless}
 use Rattle.run_audit.proofs.Receivers.{well_read_of, named_is}
 use Rattle.run_audit.proofs.Segments.{Alike, alike_none, alike_on, alike_silent, alike_idle, right_alike, right_silent, emitted_right, IsRight}

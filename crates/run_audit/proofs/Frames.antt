@@ -8,11 +8,11 @@ use Rattle.std.specs.Map.{keys_of, lookup}
 use Rattle.wire_base.specs.declared.address.Link.{Link}
 use Rattle.wire_base.specs.Frames.{packet_in}
 use Rattle.pcap_file.specs.declared.head.Head.{Head}
-use Rattle.pcap_file.specs.declared.order.Order.{Order}
+use Rattle.pcap_file.specs.declared.record.Order.{Order}
 use Rattle.pcap_file.specs.Records.{Packet, front_of}
 use Rattle.pcap_file.specs.Capture.{ReadsTo, offset_of}
-use Rattle.pcap_file.specs.Reads.{Leaves, HasEnd, Advances}
-use Rattle.pcap_file.specs.Reading.{Reading}
+use Rattle.pcap_file.specs.RecordReading.{Leaves, HasEnd, Advances}
+use Rattle.pcap_file.specs.ReaderState.{Reading}
 use Rattle.rule_book.specs.Entries.{PlainEntry, plain}
 use Rattle.indexmap.specs.IndexMap.{get}
 use Rattle.pcap_file.proofs.Captures.{front_of_nothing}
@@ -20,13 +20,14 @@ use Rattle.rule_book.specs.declared.entry.Entry.{Entry}
 use Rattle.run_audit.specs.declared.answer.Reason.{Reason}
 use Rattle.run_audit.specs.declared.answer.Reason.TheVariants as reasons
 use Rattle.run_audit.specs.declared.owners.Owners.{Owners}
-use Rattle.run_audit.specs.Audits.{frames_of, SoundFrames, FaultyFrame, HasEra}
-use Rattle.run_audit.specs.Eras.{Eras, AllStandFor, AreThere, IsJudged, IsNoted, StandsForFew}
-use Rattle.run_audit.specs.Faults.{IsFirstReason}
+use Rattle.run_audit.specs.CaptureFindings.{frames_of, SoundFrames, FaultyFrame}
+use Rattle.run_audit.specs.working.CaptureCauses.{HasEra}
+use Rattle.run_audit.specs.working.EraTable.{Eras, AllStandFor, AreThere, IsJudged, IsNoted, StandsForFew}
+use Rattle.run_audit.specs.FrameFaults.{IsFirstReason}
 use Rattle.run_audit.specs.FirstFault.{AreFaultless, FailsNext, FirstFault}
-use Rattle.run_audit.specs.Frames.{Frame, frame_of, owners, with_frame, owned, sent}
-use Rattle.run_audit.specs.Owned.{left_of}
-use Rattle.run_audit.specs.Named.{noted, all_noted, numbers_of, named_in, eras_named}
+use Rattle.run_audit.specs.OwnedFrames.{Frame, frame_of, owners, with_frame, owned, sent}
+use Rattle.run_audit.specs.working.OwnedEntries.{left_of}
+use Rattle.run_audit.specs.NamedEras.{noted, all_noted, numbers_of, named_in, eras_named}
 
 -- How an audit proceeds from frame to frame, and how it ends.
 

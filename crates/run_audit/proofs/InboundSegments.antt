@@ -11,10 +11,10 @@ use Rattle.edge_io.specs.declared.faults.NoMemory.{NoMemory}
 use Rattle.wire_base.specs.Tcp as tcp
 use Rattle.wire_base.specs.Segments.{Written}
 use Rattle.era_state.specs.Offsets.{off, natural, number_in}
-use Rattle.era_state.specs.Marks.{has_octets, fixes, get_at, octet_at}
+use Rattle.era_state.specs.SegmentMarks.{has_octets, fixes, get_at, octet_at}
 use Rattle.era_state.specs.Quantities.{base_of, base_at, acked, first, end_of}
 use Rattle.era_state.specs.Rules.{precedes}
-use Rattle.era_state.specs.Silence.{IsSilent, Same}
+use Rattle.era_state.specs.SilentSegments.{IsSilent, Same}
 use Rattle.era_state.proofs.Quantities.{base_push, octet_push, end_push}
 use Rattle.era_state.proofs.SameNumbers.{silence_changes_nothing, acked_same}
 use Rattle.receiver_model.specs.Offsets.{offset_in as model_offset}
@@ -23,13 +23,13 @@ use Rattle.run_audit.specs.declared.answer.Reason.{Reason}
 use Rattle.run_audit.specs.declared.answer.Reason.TheVariants as reasons
 use Rattle.run_audit.specs.declared.ledger.Inward.{Inward}
 use Rattle.run_audit.specs.declared.ledger.Ledger.{Ledger}
-use Rattle.run_audit.specs.Faults.{lacks_base, has_other_syn, has_other_octet, has_other_fin, some_strays, fin_strays, is_other, is_past}
-use Rattle.run_audit.specs.Ledgers.{IsInward, Tells, StandsFor, IsRightAt, IsVerdict, IsVerdictAt, octets_reason, stream_reason, settled, raised_to, top_with, fin_fits, may_end, end_with}
-use Rattle.run_audit.specs.Tops.{top, greater, last_end, place_in}
+use Rattle.run_audit.specs.FrameFaults.{lacks_base, has_other_syn, has_other_octet, has_other_fin, some_strays, fin_strays, is_other, is_past}
+use Rattle.run_audit.specs.working.EraLedgers.{IsInward, Tells, StandsFor, IsRightAt, IsVerdict, IsVerdictAt, octets_reason, stream_reason, settled, raised_to, top_with, fin_fits, may_end, end_with}
+use Rattle.run_audit.specs.EraTops.{top, greater, last_end, place_in}
 use Rattle.run_audit.specs.declared.octets.Octets.{Octets}
 use Rattle.run_audit.specs.declared.offset.Offset.{Offset}
-use Rattle.run_audit.specs.Kept.{AreKeptWith, kept_at, is_at_end, some_stray, brought}
-use Rattle.run_audit.specs.Offsets.{offset_in, some_offset}
+use Rattle.run_audit.specs.working.KeptOctets.{AreKeptWith, kept_at, is_at_end, some_stray, brought}
+use Rattle.run_audit.specs.working.StoredOffsets.{offset_in, some_offset}
 use Rattle.run_audit.proofs.Ledgers.{other_before, one_base}
 use Rattle.run_audit.proofs.KeptOctets.{last_same, bare_end, last_push}
 

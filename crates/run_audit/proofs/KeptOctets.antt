@@ -8,15 +8,15 @@ use Rattle.std.proofs.lemmas.Option.{slice_get_past}
 use Rattle.std.proofs.lemmas.Bool.{ltb-false, cases_eq, cases_lt, or_right, eqb-true, eqb-false, ne_eqb, leb-true, leb-false, le-leb, lt-leb, not-false}
 use Rattle.std.proofs.lemmas.Bool.Decides.{nat_tests}
 use Rattle.wire_base.specs.Segments.{Written}
-use Rattle.era_state.specs.Words.{first_of, greatest, Moment, moments}
+use Rattle.era_state.specs.ListElements.{first_of, greatest, Moment, moments}
 use Rattle.era_state.specs.Offsets.{off, natural, nat_of}
-use Rattle.era_state.specs.Marks.{has_octets, get_at, octet_at, top_place}
+use Rattle.era_state.specs.SegmentMarks.{has_octets, get_at, octet_at, top_place}
 use Rattle.era_state.specs.Quantities.{acked, first}
 use Rattle.era_state.specs.Quantities as era
 use Rattle.era_state.proofs.Quantities.{moments_push, or_none}
-use Rattle.run_audit.specs.Tops.{octets_end, greater, furthest, last_end, place_in, top}
-use Rattle.run_audit.specs.Faults.{is_other}
-use Rattle.run_audit.specs.Kept.{AreKeptWith, brought, is_at_end, block_at, kept_at, kept_with, octet_in_some, some_stray}
+use Rattle.run_audit.specs.EraTops.{octets_end, greater, furthest, last_end, place_in, top}
+use Rattle.run_audit.specs.FrameFaults.{is_other}
+use Rattle.run_audit.specs.working.KeptOctets.{AreKeptWith, brought, is_at_end, block_at, kept_at, kept_with, octet_in_some, some_stray}
 use Rattle.run_audit.specs.declared.octets.Octets.{Octets}
 use Rattle.run_audit.specs.declared.offset.Offset.{Offset}
 

@@ -7,7 +7,7 @@ use Rattle.std.proofs.lemmas.List.{reverse-append, length-reverse}
 use Rattle.std.proofs.lemmas.List.Concat.{flat_map-append}
 use Rattle.std.proofs.lemmas.List.Elements.{All-drop, recursion_from_All}
 use Rattle.std.proofs.Math.Seq.{drop-append_seam}
-use Rattle.wire_base.specs.Reading.{value_or_fault}
+use Rattle.wire_base.specs.ParseResults.{value_or_fault}
 use Rattle.wire_base.specs.declared.address.Link.{Link}
 use Rattle.wire_base.specs.declared.address.Side.{Side}
 use Rattle.wire_base.specs.declared.address.Side.TheVariants.{Inward, Outward}
@@ -16,30 +16,30 @@ use Rattle.wire_base.specs.Ipv4 as ip
 use Rattle.wire_base.specs.Tcp as tcp
 use Rattle.wire_base.specs.Plain.{Plain}
 use Rattle.wire_base.specs.Segments.{Written, segment_of}
-use Rattle.ipv4_codec.specs.Header as header
+use Rattle.ipv4_codec.specs.HeaderFields as header
 use Rattle.ipv4_codec.specs.declared.header.IpFault.TheVariants as ip_faults
-use Rattle.tcp_codec.specs.Header as segment
+use Rattle.tcp_codec.specs.HeaderFields as segment
 use Rattle.tcp_codec.specs.declared.header.SumRule.TheVariants.{Skip}
 use Rattle.tcp_codec.specs.declared.header.TcpFault.TheVariants as tcp_faults
 use Rattle.rule_book.specs.Entries.{PlainEntry}
-use Rattle.norm_settings.specs.Settings.{PlainSettings}
-use Rattle.ip_rules.specs.Rows as engine_rows
+use Rattle.norm_settings.specs.SettingValues.{PlainSettings}
+use Rattle.ip_rules.specs.RuleRows as engine_rows
 use Rattle.era_state.specs.Emission.{AreEmitted}
-use Rattle.era_agreement.specs.Sent.{is_era, aside_packets, written_as, segments_in, written_in}
+use Rattle.era_agreement.specs.SentPackets.{is_era, aside_packets, written_as, segments_in, written_in}
 use Rattle.era_agreement.specs.Agreement.{IsSilentPacket}
-use Rattle.era_agreement.specs.Laws.{IsEmittedEra}
+use Rattle.era_agreement.specs.AgreementLaws.{IsEmittedEra}
 use Rattle.tcp_norm.specs.Calls.{is_written}
 use Rattle.norm_engine.specs.Items.{Item, entries}
 use Rattle.norm_engine.specs.Agreement.{sent_in}
-use Rattle.norm_engine.specs.Laws.{IsSound, ItemsAreCounted}
-use Rattle.norm_engine.specs.Certain as engine
-use Rattle.norm_engine.specs.Certain.{IsWholeSegment, ItemsAreCertain, LawfulIsEmitted}
+use Rattle.norm_engine.specs.TraceLaws.{IsSound, ItemsAreCounted}
+use Rattle.norm_engine.specs.CertainReading as engine
+use Rattle.norm_engine.specs.CertainReading.{IsWholeSegment, ItemsAreCertain, LawfulIsEmitted}
 use Rattle.norm_engine.proofs.ItemFrames.{none_before}
-use Rattle.run_audit.specs.Emitted.{Marked, IsCertain, NoneAcksUnbased, EmittedHasNoFault, frames_in, sent_as}
-use Rattle.run_audit.specs.Faults.{is_segment, IsWellReadAs}
+use Rattle.run_audit.specs.EmittedFrames.{Marked, IsCertain, NoneAcksUnbased, EmittedHasNoFault, frames_in, sent_as}
+use Rattle.run_audit.specs.FrameFaults.{is_segment, IsWellReadAs}
 use Rattle.run_audit.specs.FirstFault.{AreFaultless, NoFault}
-use Rattle.run_audit.specs.Frames.{Frame, frame_of, is_inward, owned, owners, with_frame}
-use Rattle.run_audit.specs.Lawful.{ResetsAreLast, frames_written, entries_written, LawfulHasNoFault, LawfulIsYes}
+use Rattle.run_audit.specs.OwnedFrames.{Frame, frame_of, is_inward, owned, owners, with_frame}
+use Rattle.run_audit.specs.LawfulFiles.{ResetsAreLast, frames_written, entries_written, LawfulHasNoFault, LawfulIsYes}
 use Rattle.run_audit.proofs.Resets.{unbased_acks}
 
 -- the frames of one entry after others, each marked by the verdict of its item

@@ -6,19 +6,19 @@ use Rattle.std.proofs.Math.Nat.{max-zero}
 use Rattle.wire_base.specs.Tcp as tcp
 use Rattle.wire_base.specs.Segments.{Written, Segment, segment_of, written_of}
 use Rattle.era_state.specs.Offsets.{off, natural, number_in}
-use Rattle.era_state.specs.Marks.{get_at, octet_at, fin_place, fixes, ack_of}
+use Rattle.era_state.specs.SegmentMarks.{get_at, octet_at, fin_place, fixes, ack_of}
 use Rattle.era_state.specs.Quantities.{base_of, acked, first, end_of, base_at}
-use Rattle.era_state.specs.Emitted.{HasNoOtherBase}
+use Rattle.era_state.specs.EmissionLaws.{HasNoOtherBase}
 use Rattle.era_state.proofs.Quantities.{or_none, or_kept, base_push, acked_push, octet_push, end_push}
 use Rattle.era_state.proofs.SameNumbers.{acked_same, pushed}
-use Rattle.era_agreement.specs.Sent.{is_era, written_as, segments_in, written_in}
+use Rattle.era_agreement.specs.SentPackets.{is_era, written_as, segments_in, written_in}
 use Rattle.indexmap.specs.IndexMap.{get}
-use Rattle.era_state.specs.Laws.{AckedGrowsNear}
+use Rattle.era_state.specs.QuantityLaws.{AckedGrowsNear}
 use Rattle.run_audit.specs.declared.ledger.Ledger.{Ledger}
-use Rattle.run_audit.specs.Ledgers.{IsOutward, Tells, StandsFor, acked_with, counted}
-use Rattle.run_audit.specs.Frames.{Frame, is_based, is_inward, sent}
-use Rattle.run_audit.specs.Sound.{IsReadFromBase, EachIsReadFromBase, all_written}
-use Rattle.run_audit.specs.Eras.{Eras, EraHasRoom, EraStands, StandsForFew}
+use Rattle.run_audit.specs.working.EraLedgers.{IsOutward, Tells, StandsFor, acked_with, counted}
+use Rattle.run_audit.specs.OwnedFrames.{Frame, is_based, is_inward, sent}
+use Rattle.run_audit.specs.SoundFiles.{IsReadFromBase, EachIsReadFromBase, all_written}
+use Rattle.run_audit.specs.working.EraTable.{Eras, EraHasRoom, EraStands, StandsForFew}
 use Rattle.run_audit.proofs.KeptOctets.{last_same, outward_end}
 use Rattle.run_audit.proofs.Receivers.{named_is}
 use Rattle.run_audit.proofs.Frames.{none_of}

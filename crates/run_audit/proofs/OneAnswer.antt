@@ -2,26 +2,26 @@
 -- or have one first fault.
 use Rattle.std.proofs.Common.{◌≡◌, ◌⊎◌, ℕ, ◌+◌, List, [], ◌∷◌, ◌++◌, length, map, Err, refl, sym, ap, ◌∙◌, subst, arith, inl, inr, ⊎_elim, Option, Some, None, IfSome, IsSome}
 use Rattle.rule_book.specs.Entries.{PlainEntry}
-use Rattle.rule_book.specs.Reports.{IsVersion, PlainReport, HasFault, IsReport, lines, text_of}
+use Rattle.rule_book.specs.ReportReading.{IsVersion, PlainReport, HasFault, IsReport, lines, text_of}
 use Rattle.rule_book.specs.Text.{entry_text, first_line, last_text}
 use Rattle.rule_book.specs.declared.fault.LineFault.{LineFault}
 use Rattle.rule_book.specs.declared.fault.LineFault.TheVariants.{First, Shape, Number, NoMemory}
 use Rattle.rule_book.specs.declared.last.Last.{Last}
 use Rattle.rule_book.specs.declared.last.Last.TheVariants.{End, Stop}
 use Rattle.rule_book.proofs.Reports.{Gives, gives_fault, gives_one, gives_report, text_one, lines-text}
-use Rattle.edge_io.specs.Faults.{Rose}
+use Rattle.edge_io.specs.FaultCounts.{Rose}
 use Rattle.pcap_file.specs.Flaws as found
-use Rattle.run_audit.specs.Reported.{IsEnd, IsStop, IsFinished, IsUnfinished, IsTooLong, HasFaultAt, TellsStop, line_of_fault}
+use Rattle.run_audit.specs.ReportFindings.{IsEnd, IsStop, IsFinished, IsUnfinished, IsTooLong, HasFaultAt, TellsStop, line_of_fault}
 use Rattle.run_audit.specs.declared.answer.Answer.{Answer}
 use Rattle.run_audit.specs.declared.answer.Answer.TheVariants as answers
 use Rattle.run_audit.specs.declared.answer.Flaw.{Flaw}
 use Rattle.run_audit.specs.declared.answer.Flaw.TheVariants as flaws
 use Rattle.run_audit.specs.Answers.{flaw_of}
-use Rattle.run_audit.specs.Audited.{Seen, Failed, Says, IsExact, IsHeard, MayFail, AnswersAreOne, Answered, ToldUnless, TellsExactly}
-use Rattle.run_audit.specs.Audits.{IsSound, IsFaulty, IsFlawed}
-use Rattle.run_audit.specs.Named.{eras_named}
-use Rattle.run_audit.specs.Told.{Tells}
-use Rattle.run_audit.specs.Words.{asked}
+use Rattle.run_audit.specs.AnswerMeanings.{Seen, Failed, Says, IsExact, IsHeard, MayFail, AnswersAreOne, Answered, ToldUnless, TellsExactly}
+use Rattle.run_audit.specs.CaptureFindings.{IsSound, IsFaulty, IsFlawed}
+use Rattle.run_audit.specs.NamedEras.{eras_named}
+use Rattle.run_audit.specs.AnswerOutput.{Tells}
+use Rattle.run_audit.specs.AuditWords.{asked}
 use Rattle.run_audit.proofs.Outcomes.{HasOutcome, Outcome, all_sound, first_fault, first_flaw, outcome_one}
 
 -- Octets are the text of one report, or have one first fault.

@@ -5,18 +5,18 @@ use Rattle.std.proofs.lemmas.Bool.{cases_order}
 use Rattle.std.proofs.lemmas.Option.{slice_get_past, slice_get_cases}
 use Rattle.pcap_file.specs.declared.head.Head.{Head}
 use Rattle.pcap_file.specs.Flaws as found
-use Rattle.pcap_file.specs.Heads.{head_of}
+use Rattle.pcap_file.specs.FileHead.{head_of}
 use Rattle.pcap_file.specs.Records.{Packet, front_of}
 use Rattle.pcap_file.specs.Capture.{ReadsTo, offset_of}
 use Rattle.pcap_file.proofs.Captures.{same_records, front_of_nothing}
 use Rattle.rule_book.specs.Entries.{PlainEntry}
-use Rattle.era_agreement.specs.Sent.{Sent}
+use Rattle.era_agreement.specs.SentPackets.{Sent}
 use Rattle.run_audit.specs.declared.answer.Reason.{Reason}
 use Rattle.run_audit.specs.declared.answer.Reason.TheVariants as reasons
-use Rattle.run_audit.specs.Audits.{frames_of, SoundFrames, FaultyFrame, FlawedFrame, IsSound, IsFaulty, IsFlawed}
-use Rattle.run_audit.specs.Faults.{Holds, IsFirstReason, IsFaultless}
+use Rattle.run_audit.specs.CaptureFindings.{frames_of, SoundFrames, FaultyFrame, FlawedFrame, IsSound, IsFaulty, IsFlawed}
+use Rattle.run_audit.specs.FrameFaults.{Holds, IsFirstReason, IsFaultless}
 use Rattle.run_audit.specs.FirstFault.{AreFaultless, FailsNext}
-use Rattle.run_audit.specs.Frames.{Frame, frame_of, owners, owned, sent}
+use Rattle.run_audit.specs.OwnedFrames.{Frame, frame_of, owners, owned, sent}
 use Rattle.run_audit.proofs.Frames.{frames_long, owner_at, owned_more}
 
 -- this number of sound frames, a fault with the number of its frame, or a flaw with its offset

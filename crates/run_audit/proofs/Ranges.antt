@@ -12,33 +12,33 @@ use Rattle.rule_book.specs.declared.entry.Ended.{Ended}
 use Rattle.rule_book.specs.declared.entry.Reason.{Reason}
 use Rattle.rule_book.specs.declared.entry.Reason.TheVariants as reasons
 use Rattle.rule_book.specs.declared.rule.Rule.{Rule}
-use Rattle.rule_book.specs.Reports.{EndedFits, EntryFits}
-use Rattle.rule_book.proofs.Lists.{all-append}
-use Rattle.norm_settings.specs.Settings.{PlainSettings}
+use Rattle.rule_book.specs.ReportReading.{EndedFits, EntryFits}
+use Rattle.rule_book.proofs.Lines.{all-append}
+use Rattle.norm_settings.specs.SettingValues.{PlainSettings}
 use Rattle.ip_rules.specs.Datagrams.{Datagram, Packet, goes_in}
 use Rattle.era_state.specs.Emission.{AreEmitted}
-use Rattle.era_state.specs.Laws.{AckedGrowsNear}
+use Rattle.era_state.specs.QuantityLaws.{AckedGrowsNear}
 use Rattle.era_state.specs.Quantities.{base_of, octets_of, octets_with}
 use Rattle.era_state.proofs.Quantities.{octets_are_below_top}
 use Rattle.era_state.proofs.EmittedSegments.{bounded}
 use Rattle.tcp_norm.specs.Calls.{Call, Alive, Outcome, read, is_era, is_key, is_written, eras, begun_in, datagram, key_of, live, segment_in, segments, written_by}
-use Rattle.tcp_norm.specs.Held.{evictable, held_in}
-use Rattle.tcp_norm.specs.Lives.{LivesAreLast}
+use Rattle.tcp_norm.specs.HeldOctets.{evictable, held_in}
+use Rattle.tcp_norm.specs.LiveEras.{LivesAreLast}
 use Rattle.tcp_norm.specs.Outcomes.{ends, expiry_of, outcome_by}
-use Rattle.tcp_norm.specs.Rows as era
-use Rattle.tcp_norm.specs.Segments.{CallsAreEmitted}
-use Rattle.tcp_norm.specs.Steps.{idled}
-use Rattle.tcp_norm.specs.Views.{View, head_of, idle_at, number_of, segments_of, view_of}
+use Rattle.tcp_norm.specs.RuleRows as era
+use Rattle.tcp_norm.specs.SegmentPackets.{CallsAreEmitted}
+use Rattle.tcp_norm.specs.IdleEnds.{idled}
+use Rattle.tcp_norm.specs.RuleViews.{View, head_of, idle_at, number_of, segments_of, view_of}
 use Rattle.tcp_norm.proofs.Lists.{all_filter, all_map, all_weaker}
 use Rattle.norm_engine.specs.Calls.{expiry_in, flow_calls, outcome_in, packet_of, segment_after, with_asked}
-use Rattle.norm_engine.specs.Clean.{HasOctets}
+use Rattle.norm_engine.specs.CleanRecords.{HasOctets}
 use Rattle.norm_engine.specs.Items.{Item, entries, now_with}
-use Rattle.norm_engine.specs.Laws.{IsSound, ItemsAreCounted, LawfulCallsAreMade}
-use Rattle.norm_engine.specs.Outgoing.{ItemsGoOut}
+use Rattle.norm_engine.specs.TraceLaws.{IsSound, ItemsAreCounted, LawfulCallsAreMade}
+use Rattle.norm_engine.specs.OutgoingFrames.{ItemsGoOut}
 use Rattle.norm_engine.specs.Trace.{Read, begun_by, ended_by, era_by, item_of, outcome_of, read_after}
 use Rattle.norm_engine.proofs.EngineStates.{few_idle}
 use Rattle.norm_engine.proofs.ItemFrames.{none_before}
-use Rattle.run_audit.specs.Lawful.{frames_written}
+use Rattle.run_audit.specs.LawfulFiles.{frames_written}
 use Rattle.run_audit.proofs.Ledgers.{acked_small}
 
 -- an era has at most as many segments as there are frames, and at most as many eras begin as there

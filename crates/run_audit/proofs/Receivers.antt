@@ -10,19 +10,19 @@ use Rattle.wire_base.specs.Plain.{Plain}
 use Rattle.wire_base.specs.Segments.{Segment, Written, fields_of, segment_of, written_of}
 use Rattle.era_state.specs.Offsets.{off}
 use Rattle.era_state.specs.Quantities.{base_of, acked, end_of, first}
-use Rattle.era_state.specs.Emitted.{HasNoOtherBase}
-use Rattle.era_state.specs.Silence.{IsSilent, SilenceChangesNothing}
+use Rattle.era_state.specs.EmissionLaws.{HasNoOtherBase}
+use Rattle.era_state.specs.SilentSegments.{IsSilent, SilenceChangesNothing}
 use Rattle.receiver_model.specs.Monitors.{MonitorsMissNothing}
-use Rattle.receiver_model.specs.Agreement.{MembersAgree}
-use Rattle.receiver_model.specs.Parts.{MembersReadParts}
-use Rattle.era_agreement.specs.Sent.{is_era, inward_packets, written_as, segments_in, written_in, place_of, placed_at, inward_places}
+use Rattle.receiver_model.specs.FamilyAgreement.{MembersAgree}
+use Rattle.receiver_model.specs.StreamParts.{MembersReadParts}
+use Rattle.era_agreement.specs.SentPackets.{is_era, inward_packets, written_as, segments_in, written_in, place_of, placed_at, inward_places}
 use Rattle.era_agreement.specs.Agreement.{IsSilentPacket, EraIsSound, MissesNothingInTime}
 use Rattle.era_agreement.proofs.Streams.{EraLaws, IsTold, told_still, other_before, Told, one_stream, octet_first, fin_end}
 use Rattle.receiver_model.proofs.Places.{Each, each_append, each_map}
-use Rattle.run_audit.specs.Faults.{in_stream, lacks_base, has_other_syn, has_other_octet, has_other_fin, IsWellReadAs, IsFaultless}
+use Rattle.run_audit.specs.FrameFaults.{in_stream, lacks_base, has_other_syn, has_other_octet, has_other_fin, IsWellReadAs, IsFaultless}
 use Rattle.run_audit.specs.FirstFault.{AreFaultless}
-use Rattle.run_audit.specs.Frames.{Frame, is_based, is_inward, sent}
-use Rattle.run_audit.specs.Sound.{FaultlessAgrees, FaultlessMissesNothing, FaultlessReadsOneStream}
+use Rattle.run_audit.specs.OwnedFrames.{Frame, is_based, is_inward, sent}
+use Rattle.run_audit.specs.SoundFiles.{FaultlessAgrees, FaultlessMissesNothing, FaultlessReadsOneStream}
 use Rattle.run_audit.proofs.Segments.{IsRight, EndsBehind, told, silent_unbased, ends_on, ends_silent, ends_outward}
 
 -- the laws that are cited

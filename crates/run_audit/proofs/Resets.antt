@@ -8,34 +8,34 @@ use Rattle.std.proofs.lemmas.Bool.{false≢true, or_left, or_right, or_parts, or
 use Rattle.std.proofs.lemmas.List.Folds.{list_any-append}
 use Rattle.wire_base.specs.Tcp as tcp
 use Rattle.wire_base.specs.Segments.{Written}
-use Rattle.tcp_codec.specs.Mending.{MendedSayTheSame}
+use Rattle.tcp_codec.specs.MendedSegment.{MendedSayTheSame}
 use Rattle.rule_book.specs.declared.entry.Ended.{Ended}
 use Rattle.rule_book.specs.declared.entry.Reason.{Reason}
 use Rattle.rule_book.specs.declared.entry.Reason.TheVariants as reasons
-use Rattle.norm_settings.specs.Settings.{PlainSettings}
-use Rattle.era_state.specs.Marks.{acknowledges, fixes}
+use Rattle.norm_settings.specs.SettingValues.{PlainSettings}
+use Rattle.era_state.specs.SegmentMarks.{acknowledges, fixes}
 use Rattle.era_state.specs.Quantities.{base_of, iss, octets_of}
 use Rattle.era_state.specs.States.{is_closed, state_of}
 use Rattle.era_state.specs.Rules as rules
 use Rattle.ip_rules.specs.Datagrams.{Datagram, Packet, goes_in}
 use Rattle.tcp_norm.specs.declared.step.Step.{Step}
 use Rattle.tcp_norm.specs.Calls.{Call, expiry, datagram, Alive, Outcome, read, segment_in, is_era, is_among, is_written, ended_by, numbers_of, segments, touched_by, written_by}
-use Rattle.tcp_norm.specs.Views.{View, view_of}
-use Rattle.tcp_norm.specs.Rows.{begins, is_live, reopens, t_full, t_sum_out}
+use Rattle.tcp_norm.specs.RuleViews.{View, view_of}
+use Rattle.tcp_norm.specs.RuleRows.{begins, is_live, reopens, t_full, t_sum_out}
 use Rattle.tcp_norm.specs.Outcomes.{begun_with, call_of, ended_with, ends, outcome_at}
-use Rattle.tcp_norm.specs.Lives.{AreMade, has_ended, made_of, writes_in}
-use Rattle.tcp_norm.specs.Segments.{AsksSegment, IsSegment}
-use Rattle.tcp_norm.specs.Steps.{Does, IsStep, listed}
+use Rattle.tcp_norm.specs.LiveEras.{AreMade, has_ended, made_of, writes_in}
+use Rattle.tcp_norm.specs.SegmentPackets.{AsksSegment, IsSegment}
+use Rattle.tcp_norm.specs.working.EraSteps.{Does, IsStep, listed}
 use Rattle.tcp_norm.proofs.EmittedCalls.{unwritten}
 use Rattle.tcp_norm.proofs.CallKinds.{effect_made}
 use Rattle.tcp_norm.proofs.EraCounts.{lasts_made}
 use Rattle.tcp_norm.proofs.Lists.{among_is, all_map}
 use Rattle.tcp_norm.proofs.OutboundSegments.{out_does}
 use Rattle.norm_engine.specs.Calls.{flow_calls}
-use Rattle.norm_engine.specs.Laws.{LawfulCallsAreMade}
+use Rattle.norm_engine.specs.TraceLaws.{LawfulCallsAreMade}
 use Rattle.norm_engine.proofs.Receivers.{PacketLaws, written_is}
-use Rattle.run_audit.specs.Emitted.{NoneAcksUnbased}
-use Rattle.run_audit.specs.Lawful.{is_outbound_reset, NoneBehindReset, ResetsAreLast}
+use Rattle.run_audit.specs.EmittedFrames.{NoneAcksUnbased}
+use Rattle.run_audit.specs.LawfulFiles.{is_outbound_reset, NoneBehindReset, ResetsAreLast}
 
 -- the changes of the eras by the call of an outbound datagram
 

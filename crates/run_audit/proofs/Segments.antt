@@ -8,19 +8,19 @@ use Rattle.std.specs.Prelude.{negsuc}
 use Rattle.wire_base.specs.Tcp as tcp
 use Rattle.wire_base.specs.Segments.{Segment, Written, written_of}
 use Rattle.era_state.specs.Offsets.{off, natural, number_in}
-use Rattle.era_state.specs.Marks.{has_octets, get_at, octet_at, fin_place, fixes, acknowledges, ack_of}
+use Rattle.era_state.specs.SegmentMarks.{has_octets, get_at, octet_at, fin_place, fixes, acknowledges, ack_of}
 use Rattle.era_state.specs.Quantities.{base_of, acked, first, end_of, edge}
 use Rattle.era_state.specs.Rules.{precedes}
-use Rattle.era_state.specs.Emitted.{HasNoOtherBase, EmittedOctetsArePlaces, IsTold as IsToldIn}
-use Rattle.era_state.specs.Silence.{IsSilent, SilenceChangesNothing}
+use Rattle.era_state.specs.EmissionLaws.{HasNoOtherBase, EmittedOctetsArePlaces, IsTold as IsToldIn}
+use Rattle.era_state.specs.SilentSegments.{IsSilent, SilenceChangesNothing}
 use Rattle.era_state.proofs.Quantities.{base_push, octet_push, end_push, or_none, acked_push}
 use Rattle.era_agreement.proofs.Streams.{EraLaws, IsTold, silent_is_told, is_place}
 use Rattle.era_state.specs.Quantities as era
 use Rattle.era_state.specs.Emission.{IsBare, IsKeptFrame, IsEmitted, AreEmitted, IsOutward}
 use Rattle.era_state.proofs.Frames.{EndLies}
 use Rattle.era_state.proofs.EmittedSegments.{bounded}
-use Rattle.run_audit.specs.Faults.{is_other, is_past, some_strays, fin_strays, lacks_base, has_other_syn, has_other_octet, has_other_fin}
-use Rattle.run_audit.specs.Tops.{top, octets_end, greater, last_end, place_in}
+use Rattle.run_audit.specs.FrameFaults.{is_other, is_past, some_strays, fin_strays, lacks_base, has_other_syn, has_other_octet, has_other_fin}
+use Rattle.run_audit.specs.EraTops.{top, octets_end, greater, last_end, place_in}
 use Rattle.run_audit.proofs.KeptOctets.{below_top, last_push, last_same, outward_end, bare_end, top_most}
 
 -- A segment without a fault agrees with its era.

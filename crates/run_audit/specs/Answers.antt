@@ -1,10 +1,6 @@
 -- The answers of an audit: their statuses and their lines (this project's profile).
 use Rattle.std.specs.Prelude.{ℕ, List, [], ◌∷◌, ◌++◌, codes, decimal}
 use Rattle.pcap_file.specs.Flaws as found
-use Rattle.pcap_file.specs.declared.head.HeadFault.{HeadFault}
-use Rattle.pcap_file.specs.declared.head.HeadFault.TheVariants as heads
-use Rattle.pcap_file.specs.declared.reader.RecordFault.{RecordFault}
-use Rattle.pcap_file.specs.declared.reader.RecordFault.TheVariants as records
 use Rattle.rule_book.specs.Text.{part, last_text}
 use Rattle.rule_book.specs.declared.last.Last.TheVariants.{Stop}
 use Rattle.rule_book.specs.declared.last.StopKind.{StopKind}
@@ -71,18 +67,3 @@ line_of (answers.Flawed flaw offset) = last_text (Stop (kind_of flaw) offset)
 line_of answers.Unread = codes "stop read" ++ 10 ∷ []
 line_of answers.Memory = codes "stop memory" ++ 10 ∷ []
 line_of (answers.Report line) = codes "stop report" ++ part (decimal line) ++ 10 ∷ []
-
--- the answer to a fault of the head
-abbrev pub head_answer : HeadFault → Answer
-head_answer heads.Cut = answers.Flawed flaws.Cut 0
-head_answer heads.Magic = answers.Flawed flaws.Magic 0
-head_answer heads.Version = answers.Flawed flaws.Version 0
-head_answer heads.Link = answers.Flawed flaws.Link 0
-head_answer heads.ReadFault = answers.Unread
-
--- the answer to a fault of the record at this offset
-abbrev pub record_answer : RecordFault → (offset : ℕ) → Answer
-record_answer records.Cut offset = answers.Flawed flaws.Cut offset
-record_answer records.Long offset = answers.Flawed flaws.Long offset
-record_answer records.TooMany offset = answers.Flawed flaws.Many offset
-record_answer records.ReadFault offset = answers.Unread

@@ -3,11 +3,11 @@
 use Rattle.std.specs.Prelude.{◌≡◌, ℕ, ◌+◌, ◌≤◌, List, [], ◌∷◌, length, Option, Some, None, slice_get}
 use Rattle.wire_base.specs.declared.address.Link.{Link}
 use Rattle.rule_book.specs.Entries.{PlainEntry}
-use Rattle.era_agreement.specs.Sent.{Sent}
+use Rattle.era_agreement.specs.SentPackets.{Sent}
 use Rattle.run_audit.specs.declared.answer.Reason.{Reason}
 use Rattle.run_audit.specs.declared.answer.Reason.TheVariants.{Count}
-use Rattle.run_audit.specs.Frames.{Frame, frame_of, owners, owned, sent}
-use Rattle.run_audit.specs.Faults.{IsFirstReason, IsFaultless}
+use Rattle.run_audit.specs.OwnedFrames.{Frame, frame_of, owners, owned, sent}
+use Rattle.run_audit.specs.FrameFaults.{IsFirstReason, IsFaultless}
 
 -- no frame has a fault, each after those before it
 abbrev pub AreFaultless : (hops : ℕ) → List Frame → Type 0

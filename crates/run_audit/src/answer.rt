@@ -1,6 +1,6 @@
 //! The answer of an audit, and its line.
 ghost use Rattle.std.specs.Prelude.{◌≡◌, ◌⊎◌, ◌≤◌, IfOk, string_bytes};
-ghost use Rattle.run_audit.specs.Told.{Tells, TellsLine};
+ghost use Rattle.run_audit.specs.AnswerOutput.{Tells, TellsLine};
 ghost use Rattle.rule_book.specs.Text.{stop_word};
 
 use edge_io::{NoMemory, Sink};

@@ -5,12 +5,12 @@ ghost use Rattle.indexmap.specs.IndexMap.{get};
 ghost use Rattle.wire_base.specs.Plain.{Plain};
 ghost use Rattle.wire_base.specs.Segments.{Written};
 ghost use Rattle.wire_base.specs.declared.address.Side.{Side};
-ghost use Rattle.run_audit.specs.Faults.{is_segment};
-ghost use Rattle.run_audit.specs.Frames.{Frame, sent};
-ghost use Rattle.run_audit.specs.Frames as frames;
-ghost use Rattle.run_audit.specs.Ledgers.{IsInward, IsOutward, counted};
-ghost use Rattle.run_audit.specs.Eras.{AllStandFor, EraHasRoom, EraStands, IsJudged, IsTaken, StandsForFew, Takes};
-ghost use Rattle.run_audit.specs.Read.{IsSegment};
+ghost use Rattle.run_audit.specs.FrameFaults.{is_segment};
+ghost use Rattle.run_audit.specs.OwnedFrames.{Frame, sent};
+ghost use Rattle.run_audit.specs.OwnedFrames as frames;
+ghost use Rattle.run_audit.specs.working.EraLedgers.{IsInward, IsOutward, counted};
+ghost use Rattle.run_audit.specs.working.EraTable.{AllStandFor, EraHasRoom, EraStands, IsJudged, IsTaken, StandsForFew, Takes};
+ghost use Rattle.run_audit.specs.working.OutwardFields.{IsSegment};
 
 use crate::Reason;
 use crate::ledger::Inward;

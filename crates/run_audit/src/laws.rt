@@ -1,8 +1,8 @@
 //! Laws of the audit.
-ghost use Rattle.run_audit.specs.Audited.{AnswersAreOne};
-ghost use Rattle.run_audit.specs.Emitted.{EmittedHasNoFault};
-ghost use Rattle.run_audit.specs.Lawful.{EntriesFit, ItemsAreWrittenInOrder, LawfulHasNoFault, LawfulIsYes, ResetsAreLast, WrittenIsYes};
-ghost use Rattle.run_audit.specs.Sound.{EachIsReadFromBase, FaultlessAgrees, FaultlessMissesNothing, FaultlessReadsOneStream};
+ghost use Rattle.run_audit.specs.AnswerMeanings.{AnswersAreOne};
+ghost use Rattle.run_audit.specs.EmittedFrames.{EmittedHasNoFault};
+ghost use Rattle.run_audit.specs.LawfulFiles.{EntriesFit, ItemsAreWrittenInOrder, LawfulHasNoFault, LawfulIsYes, ResetsAreLast, WrittenIsYes};
+ghost use Rattle.run_audit.specs.SoundFiles.{EachIsReadFromBase, FaultlessAgrees, FaultlessMissesNothing, FaultlessReadsOneStream};
 
 use era_state::laws::{
     acked_grows_near, emitted_is_told, emitted_joins, emitted_octets_are_places,

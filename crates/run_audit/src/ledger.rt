@@ -3,7 +3,7 @@ ghost use Rattle.std.specs.Prelude.{◌≡◌, ℕ, ◌+◌, ◌^◌, ◌<◌, �
 ghost use Rattle.wire_base.specs.Segments.{Written};
 ghost use Rattle.wire_base.specs.Tcp.{has_fin};
 ghost use Rattle.era_state.specs.Offsets.{natural, number_in, off};
-ghost use Rattle.run_audit.specs.Ledgers.{raised_to};
+ghost use Rattle.run_audit.specs.working.EraLedgers.{raised_to};
 
 use crate::Reason;
 use crate::octets::Octets;
@@ -42,7 +42,7 @@ pub(crate) struct Ledger {
 }
 
 impl Ledger {
-    ghost use Rattle.run_audit.specs.Ledgers.{IsInward, IsOutward, IsVerdict, IsVerdictAt, StandsFor, acked_with as acked_with_number, counted, end_with, may_end, settled, top_with};
+    ghost use Rattle.run_audit.specs.working.EraLedgers.{IsInward, IsOutward, IsVerdict, IsVerdictAt, StandsFor, acked_with as acked_with_number, counted, end_with, may_end, settled, top_with};
 
     /// Returns the state of an era without segments.
     pub(crate) fn new(alloc: Global) -> Ledger

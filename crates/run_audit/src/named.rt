@@ -3,8 +3,8 @@ ghost use Rattle.std.specs.Prelude.{◌≡◌, ◌++◌, ◌∷◌, [], map, nat
 ghost use Rattle.std.specs.Option.{option_to_list};
 ghost use Rattle.indexmap.specs.IndexMap.{keys};
 ghost use Rattle.rule_book.specs.Entries.{plain};
-ghost use Rattle.run_audit.specs.Eras.{AllStandFor};
-ghost use Rattle.run_audit.specs.Named as spec;
+ghost use Rattle.run_audit.specs.working.EraTable.{AllStandFor};
+ghost use Rattle.run_audit.specs.NamedEras as spec;
 
 use crate::ledger::Ledger;
 use edge_io::NoMemory;

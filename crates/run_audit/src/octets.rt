@@ -1,7 +1,7 @@
 //! The first octets of a stream, by their offsets. No octet is forgotten.
 ghost use Rattle.std.specs.Prelude.{◌≡◌, ℕ, ◌+◌, ◌%◌, ◌==◌, ◌^◌, ◌<◌, ◌≤◌, ◌||◌, not, length, IsTrue, Option, Some, None, IfOk, if◌then◌else◌};
-ghost use Rattle.run_audit.specs.Faults.{is_other};
-ghost use Rattle.run_audit.specs.Kept.{is_at_end, some_stray};
+ghost use Rattle.run_audit.specs.FrameFaults.{is_other};
+ghost use Rattle.run_audit.specs.working.KeptOctets.{is_at_end, some_stray};
 
 use crate::offset::Offset;
 use edge_io::NoMemory;
@@ -21,7 +21,7 @@ struct Block {
 }
 
 impl Block {
-    ghost use Rattle.run_audit.specs.Kept.{kept_with, octet_in, some_stray};
+    ghost use Rattle.run_audit.specs.working.KeptOctets.{kept_with, octet_in, some_stray};
 
     // Returns a block without octets.
     fn new() -> Block
@@ -73,7 +73,7 @@ pub(crate) struct Octets {
 }
 
 impl Octets {
-    ghost use Rattle.run_audit.specs.Kept.{AreKeptWith, kept_at, octet_in, some_stray};
+    ghost use Rattle.run_audit.specs.working.KeptOctets.{AreKeptWith, kept_at, octet_in, some_stray};
 
     /// Returns a stream without octets.
     pub(crate) fn new(alloc: Global) -> Octets

@@ -1,7 +1,7 @@
 //! The entry of the report that each frame belongs to.
 ghost use Rattle.std.specs.Prelude.{◌≡◌, [], ◌∷◌, map, MatchOption};
 ghost use Rattle.rule_book.specs.Entries.{plain};
-ghost use Rattle.run_audit.specs.Frames as frames;
+ghost use Rattle.run_audit.specs.OwnedFrames as frames;
 
 use rule_book::Entry;
 
@@ -14,7 +14,7 @@ pub(crate) struct Owners<'a> {
 }
 
 impl<'a> Owners<'a> {
-    ghost use Rattle.run_audit.specs.Owned.{left_of};
+    ghost use Rattle.run_audit.specs.working.OwnedEntries.{left_of};
 
     /// Returns the entries of all frames.
     pub(crate) fn new(entries: &'a [Entry]) -> Owners<'a>

@@ -1,11 +1,12 @@
 //! Reads the report of a run to its end.
 ghost use Rattle.std.specs.Prelude.{◌≡◌, ◌≤◌, length, map, IfErr, IfOk, IfSome};
-ghost use Rattle.edge_io.specs.Faults.{Rose};
+ghost use Rattle.edge_io.specs.FaultCounts.{Rose};
 ghost use Rattle.rule_book.specs.Entries.{plain};
-ghost use Rattle.rule_book.specs.Reports.{HasFault, lines};
+ghost use Rattle.rule_book.specs.ReportReading.{HasFault, lines};
 ghost use Rattle.rule_book.specs.declared.fault.LineFault.{LineFault};
-ghost use Rattle.run_audit.specs.Reported.{IsFinished, WereLeft, WhyUnread, line_of_fault};
-ghost use Rattle.run_audit.specs.Reported as spec;
+ghost use Rattle.run_audit.specs.ReportFindings.{IsFinished, line_of_fault};
+ghost use Rattle.run_audit.specs.working.ReportCauses.{WereLeft, WhyUnread};
+ghost use Rattle.run_audit.specs.working.ReportCauses as spec;
 
 use crate::Answer;
 use edge_io::Source;

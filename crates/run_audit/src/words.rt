@@ -1,6 +1,6 @@
 //! The words of an audit.
 ghost use Rattle.std.specs.Prelude.{◌≡◌, map, string_bytes};
-ghost use Rattle.run_audit.specs.Words.{asked};
+ghost use Rattle.run_audit.specs.AuditWords.{asked};
 
 use norm_settings::number_within;
 

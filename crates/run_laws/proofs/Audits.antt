@@ -5,33 +5,33 @@ use Rattle.std.specs.List.{AllByRecursion}
 use Rattle.std.proofs.lemmas.List.{append_cancel_left, length-append, length-map, reverse-append}
 use Rattle.wire_base.specs.declared.address.Link.{Link}
 use Rattle.pcap_file.specs.declared.head.Head.{Head}
-use Rattle.pcap_file.specs.declared.order.Order.{Order}
-use Rattle.pcap_file.specs.Heads.{head_octets}
+use Rattle.pcap_file.specs.declared.record.Order.{Order}
+use Rattle.pcap_file.specs.FileHead.{head_octets}
 use Rattle.pcap_file.specs.Records.{Packet}
 use Rattle.rule_book.specs.declared.last.Last.TheVariants.{End}
 use Rattle.rule_book.specs.Entries.{PlainEntry}
 use Rattle.rule_book.specs.Text.{ended_part, entry_text, era_part, first_line, last_text, lines_text, part, report_text, rule_parts, side_word, verdict_word}
-use Rattle.rule_book.proofs.Lists.{all-append}
-use Rattle.norm_settings.specs.Options.{number_within}
+use Rattle.rule_book.proofs.Lines.{all-append}
+use Rattle.norm_settings.specs.OptionTable.{number_within}
 use Rattle.wire_base.specs.Prefixes.{is_number, number_of}
-use Rattle.norm_settings.specs.Settings.{PlainSettings}
+use Rattle.norm_settings.specs.SettingValues.{PlainSettings}
 use Rattle.norm_engine.specs.Items.{Item, entries, packets}
-use Rattle.norm_engine.specs.Clean.{HaveOctets}
-use Rattle.norm_engine.specs.Laws.{ItemsAreCounted}
-use Rattle.norm_engine.specs.Sending.{HasShortFrames}
+use Rattle.norm_engine.specs.CleanRecords.{HaveOctets}
+use Rattle.norm_engine.specs.TraceLaws.{ItemsAreCounted}
+use Rattle.norm_engine.specs.SentFrames.{HasShortFrames}
 use Rattle.norm_engine.specs.Trace.{Lawful}
-use Rattle.both_sides.specs.Cut.{WrittenWhole, written}
+use Rattle.both_sides.specs.WrittenTrace.{WrittenWhole, written}
 use Rattle.both_sides.specs.Frames.{frame_count, frames_octets, item_octets}
 use Rattle.both_sides.specs.RunLaws.{OnePutsItsTrace}
-use Rattle.both_sides.specs.Puts.{Put, count_put, octets_put, puts, report_of}
-use Rattle.both_sides.specs.Runs.{LawfulRun, RunHasOctets, RunTrace, one, packets_of, two}
+use Rattle.both_sides.specs.RecordOutputs.{Put, count_put, octets_put, puts, report_of}
+use Rattle.both_sides.specs.RunTraces.{LawfulRun, RunHasOctets, RunTrace, one, packets_of, two}
 use Rattle.bridge_run.specs.Promises.{FramesFit, HaveTimes}
 use Rattle.run_audit.specs.declared.answer.Answer.TheVariants as answers
-use Rattle.run_audit.specs.Audited.{AnswersAreOne, IsYes, Says, Seen, ToldUnless, seen}
-use Rattle.run_audit.specs.Lawful.{FitsFiles, ItemsAreWrittenInOrder, RecordFits, WrittenIsYes, capture_written, last_written, record_with, records_octets, records_written, report_written}
-use Rattle.run_audit.specs.Reported.{is_most}
-use Rattle.run_audit.specs.Words.{asked}
-use Rattle.run_laws.specs.Audit.{IsAuditedYes, NoneRose, RunsAreAuditedYes}
+use Rattle.run_audit.specs.AnswerMeanings.{AnswersAreOne, IsYes, Says, Seen, ToldUnless, seen}
+use Rattle.run_audit.specs.LawfulFiles.{FitsFiles, ItemsAreWrittenInOrder, RecordFits, WrittenIsYes, capture_written, last_written, record_with, records_octets, records_written, report_written}
+use Rattle.run_audit.specs.ReportFindings.{is_most}
+use Rattle.run_audit.specs.AuditWords.{asked}
+use Rattle.run_laws.specs.AuditedRuns.{IsAuditedYes, NoneRose, RunsAreAuditedYes}
 
 -- ---- the words
 

@@ -1,49 +1,46 @@
 -- A view with --evidence that finds none: each line that it is about passed, so the recorded
 -- packets were read as those that were written.
-use Rattle.std.proofs.Common.{◌≡◌, ◌≢◌, ◌⊎◌, inl, inr, ℕ, zero, suc, ◌==◌, ◌&&◌, ◌||◌, not, cond, is_some, if◌then◌else◌, Bool, true, false, List, [], ◌∷◌, ◌++◌, length, Option, Some, None, eqb-true, refl, sym, ap, ap₂, ◌∙◌, subst, arith}
+use Rattle.std.proofs.Common.{◌≡◌, ◌≢◌, ◌⊎◌, inl, inr, ℕ, zero, suc, ◌==◌, ◌&&◌, ◌||◌, not, if◌then◌else◌, Bool, true, false, List, [], ◌∷◌, ◌++◌, length, Option, Some, None, eqb-true, refl, sym, ap, ◌∙◌, subst, arith}
 use Rattle.std.specs.Prelude.{option_map}
-use Rattle.edge_io.specs.Faults.{next_count}
+use Rattle.edge_io.specs.FaultCounts.{next_count}
 use Rattle.wire_base.specs.declared.address.Link.{Link}
 use Rattle.wire_base.specs.declared.address.Side.{Side}
 use Rattle.wire_base.specs.declared.address.Side.TheVariants.{Inward, Outward}
-use Rattle.wire_base.specs.declared.prefix.Prefix.{Prefix}
+use Rattle.wire_base.specs.declared.address.Prefix.{Prefix}
 use Rattle.wire_base.specs.Frames.{kind_of, packet_in}
 use Rattle.wire_base.specs.Ipv4 as ip
 use Rattle.wire_base.specs.Prefixes.{holds}
 use Rattle.pcap_file.specs.declared.head.Head.{Head}
 use Rattle.pcap_file.specs.Records.{Packet}
 use Rattle.rule_book.specs.Entries.{PlainEntry}
-use Rattle.rule_book.specs.declared.entry.Verdict.{Verdict}
 use Rattle.rule_book.specs.declared.entry.Verdict.TheVariants as verdicts
-use Rattle.norm_settings.specs.Settings.{AreInRange, PlainSettings}
+use Rattle.norm_settings.specs.SettingValues.{AreInRange, PlainSettings}
 use Rattle.frame_view.specs.Flows as flows
-use Rattle.frame_view.specs.Parts.{has_ip_header, is_ip}
-use Rattle.ip_rules.specs.Rows.{carries_ip}
+use Rattle.frame_view.specs.FrameParts.{has_ip_header, is_ip}
+use Rattle.ip_rules.specs.RuleRows.{carries_ip}
 use Rattle.norm_engine.specs.Agreement.{AtEachHistory}
 use Rattle.norm_engine.specs.Items.{Item}
-use Rattle.norm_engine.specs.Recorded.{AddressPair, AreWrittenAsRecorded, IsOfPair, PassInwards, WasReadSo, UnchangedWasReadSo, any_record, has_addresses, is_readable, may_have_pair}
-use Rattle.both_sides.specs.Cut.{written}
-use Rattle.both_sides.specs.Runs.{LawfulRun, RunTrace, one, trace_in, two}
-use Rattle.bridge_run.specs.Recorded.{NormalizedWasReadSo}
+use Rattle.norm_engine.specs.RecordedHost.{AddressPair, AreWrittenAsRecorded, IsOfPair, PassInwards, WasReadSo, UnchangedWasReadSo, any_record, has_addresses, is_readable, may_have_pair}
+use Rattle.both_sides.specs.WrittenTrace.{written}
+use Rattle.both_sides.specs.RunTraces.{LawfulRun, RunTrace, one, trace_in, two}
+use Rattle.bridge_run.specs.RecordedHost.{NormalizedWasReadSo}
 use Rattle.bridge_run.specs.Theorem.{Normalized}
-use Rattle.run_view.specs.Chosen.{chooses_records, either, has_choice, has_host, is_evidence, is_outward, meets_all, met_by, met_of}
-use Rattle.run_view.specs.Events.{Event, chosen_of, ends_chosen}
+use Rattle.run_view.specs.ChosenRecords.{chooses_records, either, has_choice, has_host, is_evidence, is_outward, meets_all, met_by, met_of}
+use Rattle.run_view.specs.ShownEvents.{Event, chosen_of, ends_chosen}
 use Rattle.run_view.specs.Items.{AreItems, IsFirstLine, IsSecondLine, Line, firsts, flow_at, is_second, line_of, lines_of, packets_in, packets_of}
 use Rattle.run_view.specs.Items as view
-use Rattle.run_view.specs.Judged.{is_pass}
-use Rattle.run_view.specs.Laws.{AreSame, ConditionsChoose, ItemsAreOne}
-use Rattle.run_view.specs.Runs.{report_of}
-use Rattle.run_view.specs.Viewed.{IsStatusOf, Viewed}
-use Rattle.run_view.specs.Words.{asked_in}
+use Rattle.run_view.specs.LineJudgments.{is_pass}
+use Rattle.run_view.specs.ViewLaws.{AreSame, ConditionsChoose, ItemsAreOne}
+use Rattle.run_view.specs.StatusMeanings.{IsStatusOf, Viewed}
+use Rattle.run_view.specs.ViewWords.{asked_in}
 use Rattle.run_view.specs.declared.words.Asked.{Asked}
-use Rattle.run_view.specs.declared.form.Form.{Form}
 use Rattle.run_view.specs.declared.form.Form.TheVariants.{Version2}
 use Rattle.run_view.proofs.Numbered.{newest_is}
-use Rattle.run_laws.specs.Evidence.{AsksForEvidence, FindsNone, ViewsFindEvidence, is_of_host}
-use Rattle.run_laws.specs.View.{FitsACapture}
-use Rattle.run_laws.proofs.Passed.{pass_is}
+use Rattle.run_laws.specs.ViewEvidence.{AsksForEvidence, FindsNone, ViewsFindEvidence, is_of_host}
+use Rattle.run_laws.specs.ViewedRuns.{FitsACapture}
+use Rattle.run_laws.proofs.RunItems.{pass_is, items_one, line_one}
 use Rattle.run_laws.proofs.Traces.{ViewLaws}
-use Rattle.run_laws.proofs.Views.{Whole, all_files, items_one, line_one, run_form, run_items}
+use Rattle.run_laws.proofs.Views.{Whole, all_files, run_form, run_items}
 
 -- ---- no record is chosen
 

@@ -1,7 +1,7 @@
 pub mod ReadBack
 pub mod Audits
 pub mod Traces
-mod Passed
+pub mod RunItems
 pub mod Unsided
 pub mod Views
 pub mod Evidence

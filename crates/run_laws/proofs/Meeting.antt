@@ -1,16 +1,14 @@
 -- Receivers that read parts of one stream meet.
-use Rattle.std.proofs.Common.{◌≡◌, ℕ, List, Some}
+use Rattle.std.proofs.Common.{ℕ, List}
 use Rattle.wire_base.specs.declared.address.Link.{Link}
-use Rattle.norm_settings.specs.Settings.{PlainSettings}
-use Rattle.receiver_model.specs.Parts.{EachReadsPart, PartsMeet}
-use Rattle.era_state.specs.Quantities.{end_of, first}
-use Rattle.era_agreement.specs.Sent.{inward_packets, inward_places, written_in}
-use Rattle.norm_engine.specs.Agreement.{ReadsOneStream, sent_in}
+use Rattle.norm_settings.specs.SettingValues.{PlainSettings}
+use Rattle.receiver_model.specs.StreamParts.{PartsMeet}
+use Rattle.norm_engine.specs.Agreement.{ReadsOneStream}
 use Rattle.norm_engine.specs.Items.{Item}
-use Rattle.both_sides.specs.Cut.{ReadsOneStreamAsWritten, places_written, written}
-use Rattle.both_sides.specs.Runs.{RunTrace, one, two}
+use Rattle.both_sides.specs.WrittenTrace.{ReadsOneStreamAsWritten}
+use Rattle.both_sides.specs.RunTraces.{RunTrace, one, two}
 use Rattle.bridge_run.specs.Promises.{ReceiversReadOneStream}
-use Rattle.run_laws.specs.Meeting.{AnyTwoMeet, RunTwoMeet, TwoMeet, TwoMeetAsWritten}
+use Rattle.run_laws.specs.MeetingReceivers.{RunTwoMeet, TwoMeet, TwoMeetAsWritten}
 
 two_meet : PartsMeet → (hops : ℕ) (link : Link) (trace : List Item) → ReadsOneStream hops link trace → TwoMeet hops link trace
 two_meet law hops link trace reads era base based here there start from schedule order stream seen ended over mine yours p q =

@@ -5,20 +5,20 @@ use Rattle.std.proofs.lemmas.List.{append_cancel_left, reverse-append}
 use Rattle.run_audit.proofs.Captures.{behind_head}
 use Rattle.wire_base.specs.declared.address.Link.{Link}
 use Rattle.pcap_file.specs.declared.head.Head.{Head}
-use Rattle.pcap_file.specs.declared.order.Order.{Order}
-use Rattle.pcap_file.specs.Heads.{head_octets}
+use Rattle.pcap_file.specs.declared.record.Order.{Order}
+use Rattle.pcap_file.specs.FileHead.{head_octets}
 use Rattle.pcap_file.specs.Records.{Packet, front_of, record_octets}
 use Rattle.pcap_file.specs.Capture.{ReadsTo}
-use Rattle.pcap_file.specs.Laws.{HeadIsReadBack, RecordIsReadBack}
-use Rattle.rule_book.proofs.Lists.{all-append}
-use Rattle.norm_settings.specs.Settings.{PlainSettings}
+use Rattle.pcap_file.specs.FileLaws.{HeadIsReadBack, RecordIsReadBack}
+use Rattle.rule_book.proofs.Lines.{all-append}
+use Rattle.norm_settings.specs.SettingValues.{PlainSettings}
 use Rattle.norm_engine.specs.Items.{Item, packets}
-use Rattle.norm_engine.specs.Sending.{HasShortFrames}
-use Rattle.both_sides.specs.Cut.{written}
-use Rattle.both_sides.specs.Puts.{Put, answers_frames, octets_put, puts, puts_by_two, put_octets}
-use Rattle.both_sides.specs.Runs.{RunTrace, one, packets_of, two}
+use Rattle.norm_engine.specs.SentFrames.{HasShortFrames}
+use Rattle.both_sides.specs.WrittenTrace.{written}
+use Rattle.both_sides.specs.RecordOutputs.{Put, answers_frames, octets_put, puts, puts_by_two, put_octets}
+use Rattle.both_sides.specs.RunTraces.{RunTrace, one, packets_of, two}
 use Rattle.bridge_run.specs.Promises.{FramesFit, HaveTimes}
-use Rattle.run_laws.specs.ReadBack.{IsReadBack, ReadsOn, RunsAreReadBack, record_of, records_put}
+use Rattle.run_laws.specs.CaptureReadBack.{IsReadBack, ReadsOn, RunsAreReadBack, record_of, records_put}
 
 -- ---- records as they are written
 

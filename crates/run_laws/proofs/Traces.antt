@@ -4,29 +4,29 @@ use Rattle.std.proofs.Common.{◌≡◌, ℕ, ◌+◌, ◌*◌, ◌<◌, ◌≤�
 use Rattle.std.specs.List.{AllByRecursion, list_any}
 use Rattle.std.proofs.lemmas.List.{length-append, length-map, length-reverse}
 use Rattle.wire_base.specs.declared.address.Link.{Link}
-use Rattle.rule_book.specs.Reports.{EntryFits, IsEntryOf}
+use Rattle.rule_book.specs.ReportReading.{EntryFits, IsEntryOf}
 use Rattle.rule_book.specs.Rules.{touches_payload}
 use Rattle.rule_book.specs.declared.entry.Verdict.{Verdict}
 use Rattle.rule_book.specs.declared.entry.Verdict.TheVariants as verdicts
 use Rattle.rule_book.specs.declared.rule.Rule.{Rule}
-use Rattle.norm_settings.specs.Settings.{AreInRange, PlainSettings}
+use Rattle.norm_settings.specs.SettingValues.{AreInRange, PlainSettings}
 use Rattle.norm_engine.specs.Items.{Item, entries}
-use Rattle.norm_engine.specs.Laws.{IsCounted, IsSound, ItemsAreCounted, LawfulKeepsClean}
-use Rattle.norm_engine.specs.Outgoing.{IsOutgoing, ItemsGoOut}
-use Rattle.norm_engine.specs.Clean.{KeepsPayload, is_clean}
+use Rattle.norm_engine.specs.TraceLaws.{IsCounted, IsSound, ItemsAreCounted, LawfulKeepsClean}
+use Rattle.norm_engine.specs.OutgoingFrames.{IsOutgoing, ItemsGoOut}
+use Rattle.norm_engine.specs.CleanRecords.{KeepsPayload, is_clean}
 use Rattle.norm_engine.specs.Trace.{Read, dropped_by, is_held, named_rows, read_after, verdict_by}
 use Rattle.norm_engine.proofs.ItemFrames.{none_before}
-use Rattle.emit_mtu.specs.Laws.{AreFew}
-use Rattle.emit_mtu.specs.Long.{e_cut, e_mtu}
-use Rattle.emit_mtu.specs.Streams.{PlainHeadersAreWhole, frames_of}
+use Rattle.emit_mtu.specs.CutLaws.{AreFew}
+use Rattle.emit_mtu.specs.LongFrames.{e_cut, e_mtu}
+use Rattle.emit_mtu.specs.CutStreams.{PlainHeadersAreWhole, frames_of}
 use Rattle.emit_mtu.specs.declared.long.LongKind.TheVariants.{Fits, Cut, Drop}
-use Rattle.both_sides.specs.Cut.{HaveFrameOctets, cuts_some, frames_written, item_written, keeps_some_back, rules_cut, verdict_cut, written}
+use Rattle.both_sides.specs.WrittenTrace.{HaveFrameOctets, cuts_some, frames_written, item_written, keeps_some_back, rules_cut, verdict_cut, written}
 use Rattle.both_sides.specs.RunLaws.{TwoPutTheirMirror}
 use Rattle.both_sides.proofs.Frames.{all_sent, written_few}
 use Rattle.both_sides.proofs.Outputs.{packets_written, version_written}
-use Rattle.run_audit.specs.Lawful.{EntriesFit, frames_written as frames_of_trace}
-use Rattle.run_view.specs.Laws.{RunsAreViewed}
-use Rattle.run_laws.specs.ReadBack.{RunsAreReadBack}
+use Rattle.run_audit.specs.LawfulFiles.{EntriesFit, frames_written as frames_of_trace}
+use Rattle.run_view.specs.ViewLaws.{RunsAreViewed}
+use Rattle.run_laws.specs.CaptureReadBack.{RunsAreReadBack}
 
 -- if the record passed, exactly its frame was written
 abbrev pub IsUnchanged : Item → Type 0

@@ -6,10 +6,10 @@ use Rattle.std.proofs.lemmas.Option.{slice_get-map}
 use Rattle.wire_base.specs.declared.address.Link.{Link}
 use Rattle.wire_base.specs.declared.limits.TheConstants.{MAX_CAPTURED}
 use Rattle.pcap_file.specs.declared.head.Head.{Head}
-use Rattle.pcap_file.specs.declared.order.Order.{Order}
+use Rattle.pcap_file.specs.declared.record.Order.{Order}
 use Rattle.pcap_file.specs.Flaws.{Flaw}
-use Rattle.pcap_file.specs.Heads.{head_of, link_of}
-use Rattle.pcap_file.specs.Numbers.{u16_at, u32_at}
+use Rattle.pcap_file.specs.FileHead.{head_of, link_of}
+use Rattle.pcap_file.specs.FileNumbers.{u16_at, u32_at}
 use Rattle.pcap_file.specs.Records.{Packet, captured, front_of}
 use Rattle.pcap_file.specs.Capture.{ReadsTo}
 use Rattle.pcapng_file.specs.declared.content.Content.{Content}
@@ -20,12 +20,12 @@ use Rattle.pcapng_file.specs.declared.fault.NgFault.{NgFault}
 use Rattle.pcapng_file.specs.declared.fault.NgFault.TheVariants as faults
 use Rattle.pcapng_file.specs.declared.interface.Interface.{Interface}
 use Rattle.pcapng_file.specs.Blocks.{Step, before, block_at, end_by, is_size, order_at, ordered_at, sized_at, step_of, told}
-use Rattle.pcapng_file.specs.Contents.{clipped, content_of, enhanced_of, enhanced_says, enhanced_type, found_of, interface_found, interface_says, interface_type, is_link, linked_says, old_packet_type, per_second, section_says, section_type, simple_of, simple_says, simple_type, timed_says}
-use Rattle.pcapng_file.specs.Options.{Entry, described, first_value, is_named, nano_of, options_of, padded, with_unit}
+use Rattle.pcapng_file.specs.BlockContents.{clipped, content_of, enhanced_of, enhanced_says, enhanced_type, found_of, interface_found, interface_says, interface_type, is_link, linked_says, old_packet_type, per_second, section_says, section_type, simple_of, simple_says, simple_type, timed_says}
+use Rattle.pcapng_file.specs.InterfaceOptions.{Entry, described, first_value, is_named, nano_of, options_of, padded, with_unit}
 use Rattle.pcapng_file.specs.Sections.{Walks, behind, packets_of, with_given}
-use Rattle.pcapng_file.specs.Standing.{Sections, counted, no_section}
+use Rattle.pcapng_file.specs.SectionState.{Sections, counted, no_section}
 use Rattle.capture_input.specs.Inputs.{BeginsWith, IsHeadOf, IsInput, Walk, blocks, classic_head, packets_in, records}
-use Rattle.run_laws.specs.View.{unsided}
+use Rattle.run_laws.specs.ViewedRuns.{unsided}
 
 -- what is read without the name: no side, and no interface that has it
 abbrev unnamed : Interface → Interface

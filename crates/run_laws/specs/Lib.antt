@@ -1,5 +1,5 @@
-pub mod ReadBack
-pub mod Audit
-pub mod View
-pub mod Evidence
-pub mod Meeting
+pub mod CaptureReadBack
+pub mod AuditedRuns
+pub mod ViewedRuns
+pub mod ViewEvidence
+pub mod MeetingReceivers

@@ -1,9 +1,9 @@
 //! Laws of what a finished run wrote.
-ghost use Rattle.run_laws.specs.Audit.{RunsAreAuditedYes};
-ghost use Rattle.run_laws.specs.Evidence.{ViewsFindEvidence};
-ghost use Rattle.run_laws.specs.Meeting.{ReceiversOfRunsMeet};
-ghost use Rattle.run_laws.specs.ReadBack.{RunsAreReadBack};
-ghost use Rattle.run_laws.specs.View.{RunsAreViewedWhole};
+ghost use Rattle.run_laws.specs.AuditedRuns.{RunsAreAuditedYes};
+ghost use Rattle.run_laws.specs.ViewEvidence.{ViewsFindEvidence};
+ghost use Rattle.run_laws.specs.MeetingReceivers.{ReceiversOfRunsMeet};
+ghost use Rattle.run_laws.specs.CaptureReadBack.{RunsAreReadBack};
+ghost use Rattle.run_laws.specs.ViewedRuns.{RunsAreViewedWhole};
 
 use both_sides::laws::{one_puts_its_trace, two_put_their_mirror, unbounded_is_written_whole};
 use bridge_run::laws::unchanged_captures_were_read_so;

@@ -8,8 +8,8 @@ use Rattle.std.specs.List.{list_any}
 use Rattle.std.proofs.lemmas.Bool.Decides.{nat_tests}
 use Rattle.wire_base.specs.Options.{are_well_formed, cleaned}
 use Rattle.wire_base.proofs.OptionWalk.{drop-kind, drop-option, size-at}
-use Rattle.tcp_codec.specs.declared.cleaning.Kept.{Kept}
-use Rattle.tcp_codec.specs.Cleaning.{StandsFor, is_kept_after}
+use Rattle.tcp_codec.specs.declared.write.Kept.{Kept}
+use Rattle.tcp_codec.specs.working.CleaningState.{StandsFor, is_kept_after}
 use Rattle.tcp_codec.proofs.Walks.{formed-none, formed-option, cleaned_from, cleaned_from-first, cleaned_from-other, cleaned_from-kept, cleaned_from-blank, cleaned-walk, option_some}
 
 -- Cleaning of an area in its buffer, option by option.

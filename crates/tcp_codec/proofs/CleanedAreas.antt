@@ -7,7 +7,8 @@ use Rattle.std.specs.List.{list_any}
 use Rattle.wire_base.specs.Options.{cleaned, end_of}
 use Rattle.wire_base.proofs.OptionWalk.{formed_from, formed_from-size, formed_from-small, scale_from, scale_from-size}
 use Rattle.wire_base.proofs.OptionLists.{are_well_formed-walk, has-first, scale_of-walk, scale_from-first}
-use Rattle.tcp_codec.specs.Cleaning.{CleansOctets, CleansOnce, KeepsScale, LosesScale, StaysWellFormed, is_kept_after}
+use Rattle.tcp_codec.specs.CleanedOptions.{CleansOctets, CleansOnce, KeepsScale, LosesScale, StaysWellFormed}
+use Rattle.tcp_codec.specs.working.CleaningState.{is_kept_after}
 use Rattle.tcp_codec.proofs.Walks.{cleaned_from, cleaned_from-first, cleaned_from-other, cleaned-walk, end_from, end_from-sized, end_of-walk}
 
 -- the number of octets that still belong to the option before in a walk over the cleaned area: 0 if

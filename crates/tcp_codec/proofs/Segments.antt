@@ -5,19 +5,18 @@ use Rattle.std.proofs.lemmas.List.{drop-take, drop-drop, drop_at, take_at, lengt
 use Rattle.std.proofs.lemmas.Bool.Decides.{nat_tests}
 use Rattle.wire_base.specs.Tcp as tcp
 use Rattle.wire_base.specs.Options.{are_well_formed}
-use Rattle.wire_base.specs.Reading.{value_or_fault}
+use Rattle.wire_base.specs.ParseResults.{value_or_fault}
 use Rattle.wire_base.specs.Numbers.{with_u16, u16_octets}
-use Rattle.wire_base.specs.Sums.{word_sum, checksum_for, is_right, sum_is_right}
-use Rattle.wire_base.proofs.Checksums.{word_sum-with_u16, checksum_for-below, is_right-checked}
+use Rattle.wire_base.specs.Checksums.{word_sum, checksum_for, is_right, sum_is_right}
+use Rattle.wire_base.proofs.Octets.{word_sum-with_u16, checksum_for-below, is_right-checked, two-octets, four-octets}
 use Rattle.wire_base.specs.Segments.{Segment}
-use Rattle.wire_base.proofs.Octets.{two-octets, four-octets}
 use Rattle.tcp_codec.specs.declared.header.Tcp.{Tcp}
 use Rattle.tcp_codec.specs.declared.header.SumRule.{SumRule}
 use Rattle.tcp_codec.specs.declared.header.TcpFault.TheVariants.{Options}
-use Rattle.tcp_codec.specs.Header.{fields_of, fault_of, is_judged, parsed}
-use Rattle.tcp_codec.specs.Mending.{mended, SaysTheSame}
+use Rattle.tcp_codec.specs.HeaderFields.{fields_of, fault_of, is_judged, parsed}
+use Rattle.tcp_codec.specs.MendedSegment.{mended, SaysTheSame}
 use Rattle.tcp_codec.specs.declared.header.SumRule.TheVariants.{Must, Skip}
-use Rattle.tcp_codec.specs.Write.{AreReadBack, Fits, checksum_of, header_of, octets_with, pseudo_of, segment_octets}
+use Rattle.tcp_codec.specs.WrittenSegment.{AreReadBack, Fits, checksum_of, header_of, octets_with, pseudo_of, segment_octets}
 
 -- The result of parsing where the first faults do not hold.
 

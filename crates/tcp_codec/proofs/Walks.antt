@@ -10,7 +10,7 @@ use Rattle.std.proofs.lemmas.List.Folds.{list_any-append}
 use Rattle.wire_base.specs.Options.{are_well_formed, Listed, OptionList, options_from, may_be_kept, may_stay, is_kept, cleaned_option, cleaned, end_of}
 use Rattle.wire_base.proofs.OptionWalk.{IsSize, formed_from-none, formed_from-option, formed_from-bad, formed_from-outside, scale_from, scale_from-none, scale_from-option, scale_from-size, drop-kind}
 use Rattle.wire_base.proofs.OptionLists.{are_well_formed-walk, at_front, options_from-size, front-size}
-use Rattle.tcp_codec.specs.Cleaning.{is_kept_after}
+use Rattle.tcp_codec.specs.working.CleaningState.{is_kept_after}
 
 -- Steps of walks over a well-formed list of options, by the offset reached.
 

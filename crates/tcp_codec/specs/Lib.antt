@@ -1,4 +1,5 @@
-pub mod Header
-pub mod Cleaning
-pub mod Write
-pub mod Mending
+pub mod HeaderFields
+pub mod CleanedOptions
+pub mod WrittenSegment
+pub mod MendedSegment
+pub mod working

@@ -1,7 +1,7 @@
 //! Laws over the definitions alone.
-ghost use Rattle.tcp_codec.specs.Cleaning.{CleansOctets, CleansOnce, KeepsScale, LosesScale, StaysWellFormed};
-ghost use Rattle.tcp_codec.specs.Mending.{MendedSayTheSame};
-ghost use Rattle.tcp_codec.specs.Write.{AreReadBack};
+ghost use Rattle.tcp_codec.specs.CleanedOptions.{CleansOctets, CleansOnce, KeepsScale, LosesScale, StaysWellFormed};
+ghost use Rattle.tcp_codec.specs.MendedSegment.{MendedSayTheSame};
+ghost use Rattle.tcp_codec.specs.WrittenSegment.{AreReadBack};
 
 /// States that cleaning cleaned options again changes nothing, and that well-formed options stay
 /// well formed. Each octet before the end option is unchanged or a no-operation, and each from

@@ -11,13 +11,9 @@
 //! changes nothing else.
 #![tactic(auto)]
 
-pub mod cleaning;
 pub mod header;
 pub mod laws;
-mod option_area;
 pub mod write;
 
-pub use cleaning::{clean_options, options_change};
-pub use header::{SumRule, Tcp, TcpFault, parse, parse_into};
-pub use option_area::scale_of;
-pub use write::{SegmentParts, mend, write_cleaned, write_segment};
+pub use header::{SumRule, Tcp, TcpFault, parse, parse_into, scale_of};
+pub use write::{SegmentParts, clean_options, mend, options_change, write_cleaned, write_segment};

@@ -2,9 +2,9 @@
 use Rattle.std.proofs.Common.{◌≡◌, ℕ, ◌+◌, ◌≤◌, ◌<◌, true, List, length, arith}
 use Rattle.std.proofs.lemmas.Bool.Decides.{nat_tests}
 use Rattle.wire_base.specs.Numbers.{with_u16}
-use Rattle.wire_base.specs.Sums.{word_sum, is_right, checksum_for, sum_is_right}
-use Rattle.wire_base.proofs.Checksums.{word_sum-with_u16}
-use Rattle.udp_codec.specs.Checksum.{written, mended}
+use Rattle.wire_base.specs.Checksums.{word_sum, is_right, checksum_for, sum_is_right}
+use Rattle.wire_base.proofs.Octets.{word_sum-with_u16}
+use Rattle.udp_codec.specs.WrittenChecksum.{written, mended}
 
 -- a written checksum has 16 bits
 pub written-below : (total : ℕ) → written (checksum_for total) < 65536

@@ -1,2 +1,2 @@
-pub mod Checksum
-pub mod Header
+pub mod WrittenChecksum
+pub mod HeaderFields

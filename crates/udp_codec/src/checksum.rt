@@ -1,8 +1,8 @@
 //! The checksum of a UDP message.
 ghost use Rattle.std.specs.Prelude.{◌≡◌, ◌<◌, ◌≤◌, true, length};
-ghost use Rattle.wire_base.specs.Sums.{sum_is_right};
+ghost use Rattle.wire_base.specs.Checksums.{sum_is_right};
 ghost use Rattle.wire_base.specs.Udp as udp;
-ghost use Rattle.udp_codec.specs.Checksum.{mended};
+ghost use Rattle.udp_codec.specs.WrittenChecksum.{mended};
 
 use wire_base::{put_u16, sum_for};
 

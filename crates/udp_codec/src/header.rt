@@ -1,6 +1,6 @@
 //! The header of a UDP message.
 ghost use Rattle.std.specs.Prelude.{◌≡◌, ◌≤◌, length, IfOk};
-ghost use Rattle.udp_codec.specs.Header.{fields_of, parsed};
+ghost use Rattle.udp_codec.specs.HeaderFields.{fields_of, parsed};
 
 use thiserror::Error;
 use wire_base::{sum_right, u16_at};

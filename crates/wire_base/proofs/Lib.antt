@@ -1,4 +1,3 @@
-pub mod Checksums
+pub mod Octets
 pub mod OptionWalk
 pub mod OptionLists
-pub mod Octets

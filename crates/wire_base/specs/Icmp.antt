@@ -1,6 +1,6 @@
 -- The ICMP header (RFC 792), read from the octets of a message, the payload of an IPv4 packet.
 use Rattle.std.specs.Prelude.{nat_lt, not, Bool, ℕ, List, length, slice_index}
-use Rattle.wire_base.specs.Sums.{sum_is_right}
+use Rattle.wire_base.specs.Checksums.{sum_is_right}
 
 abbrev pub kind : List ℕ → ℕ
 kind m = slice_index m 0

@@ -2,7 +2,7 @@
 -- the parts of a packet. Octets past the end read as 0.
 use Rattle.std.specs.Prelude.{ℕ, ◌*◌, ◌/◌, ◌%◌, ◌==◌, ◌||◌, nat_lt, not, Bool, List, length, take, drop, slice_index}
 use Rattle.wire_base.specs.Numbers.{u16_at, u32_at}
-use Rattle.wire_base.specs.Sums.{sum_is_right}
+use Rattle.wire_base.specs.Checksums.{sum_is_right}
 
 abbrev pub version : List ℕ → ℕ
 version p = slice_index p 0 / 16

@@ -1,6 +1,6 @@
 pub mod Numbers
-pub mod Reading
-pub mod Sums
+pub mod ParseResults
+pub mod Checksums
 pub mod Frames
 pub mod Prefixes
 pub mod Ipv4
@@ -11,3 +11,4 @@ pub mod Icmp
 pub mod Tcp
 pub mod Segments
 pub mod Plain
+pub mod working

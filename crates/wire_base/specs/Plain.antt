@@ -1,7 +1,7 @@
 -- Packets that every host of the receiver family reads alike (this project's profile, over RFC 791,
 -- RFC 768, RFC 792 and RFC 9293).
 use Rattle.std.specs.Prelude.{◌≡◌, ℕ, ◌<◌, ◌≤◌, ◌⊎◌, ◌||◌, true, false, List, [], length}
-use Rattle.wire_base.specs.Sums.{sum_is_right, pseudo_sum}
+use Rattle.wire_base.specs.Checksums.{sum_is_right, pseudo_sum}
 use Rattle.wire_base.specs.Ipv4 as ip
 use Rattle.wire_base.specs.Udp as udp
 use Rattle.wire_base.specs.Tcp as tcp

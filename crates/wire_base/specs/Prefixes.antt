@@ -2,9 +2,9 @@
 -- 3.1; the counts of digits are this project's profile).
 use Rattle.std.specs.Prelude.{ℕ, ◌+◌, ◌-◌, ◌*◌, ◌/◌, ◌^◌, ◌==◌, ◌&&◌, ◌||◌, nat_lt, nat_le, Bool, List, length, fold, Result, Ok, Err, if◌then◌else◌}
 use Rattle.std.specs.List.{list_all, before_first, after_first}
-use Rattle.wire_base.specs.declared.prefix.Prefix.{Prefix}
-use Rattle.wire_base.specs.declared.prefix.PrefixFault.{PrefixFault}
-use Rattle.wire_base.specs.declared.prefix.PrefixFault.TheVariants.{Shape, Part, Length}
+use Rattle.wire_base.specs.declared.address.Prefix.{Prefix}
+use Rattle.wire_base.specs.declared.address.PrefixFault.{PrefixFault}
+use Rattle.wire_base.specs.declared.address.PrefixFault.TheVariants.{Shape, Part, Length}
 
 -- the first `len` bits of the address are those of the prefix
 abbrev pub holds : Prefix → ℕ → Bool

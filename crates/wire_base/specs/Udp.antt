@@ -1,7 +1,7 @@
 -- The UDP header (RFC 768), read from the octets of a message, the payload of an IPv4 packet.
 use Rattle.std.specs.Prelude.{◌==◌, ◌&&◌, nat_lt, not, Bool, ℕ, List, length}
 use Rattle.wire_base.specs.Numbers.{u16_at}
-use Rattle.wire_base.specs.Sums.{sum_is_right}
+use Rattle.wire_base.specs.Checksums.{sum_is_right}
 
 abbrev pub source_port : List ℕ → ℕ
 source_port m = u16_at m 0

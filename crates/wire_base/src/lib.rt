@@ -23,17 +23,15 @@ pub mod frame;
 pub mod laws;
 pub mod limits;
 pub mod number;
-pub mod prefix;
 pub mod protocol;
-pub mod sequence;
 pub mod sums;
 
-pub use address::{Addr, FlowKey, Link, Side};
+pub use address::{Addr, FlowKey, Link, Prefix, PrefixFault, Side, read_prefix};
 pub use decimal::read_number;
 pub use flags::Flags;
 pub use frame::{FrameKind, frame_kind, link_octets, packet_in};
 pub use limits::{MAX_CAPTURED, MAX_FRAME, MAX_LINK, MAX_PACKET, MAX_PAYLOAD, MAX_SHIFT};
-pub use number::{put_u16, put_u32, u16_at, u32_at};
-pub use prefix::{Prefix, PrefixFault, read_prefix};
-pub use sequence::{sequence_before, sequence_distance, sequence_plus};
+pub use number::{
+    put_u16, put_u32, sequence_before, sequence_distance, sequence_plus, u16_at, u32_at,
+};
 pub use sums::{pseudo_sum, sum_for, sum_right};

@@ -1,6 +1,7 @@
 //! Checksums: sums of 16-bit words (RFC 1071).
 ghost use Rattle.std.specs.Prelude.{◌≡◌, ◌+◌, ◌*◌, ◌/◌, ◌≤◌, ◌<◌, ◌^◌, length, drop};
-ghost use Rattle.wire_base.specs.Sums as sums;
+ghost use Rattle.wire_base.specs.Checksums as sums;
+ghost use Rattle.wire_base.specs.working.SumCounting as sums_working;
 
 use crate::Addr;
 use byteorder::{ByteOrder, LittleEndian};
@@ -47,7 +48,7 @@ fn is_right(total: u64) -> bool
 // whose least significant octet is first, and multiplies their sum by 256 once: modulo 65,535 that
 // swaps the two octets of each 16-bit word (RFC 1071 section 2).
 fn total_sum(bytes: &[u8], extra: u32) -> u64
-    ensures { sums.CountsAs result (extra + sums.word_sum bytes.now) }
+    ensures { sums_working.CountsAs result (extra + sums.word_sum bytes.now) }
 {
     u64::from(extra) + 256 * sum_of_numbers(bytes)
 }
@@ -55,7 +56,7 @@ fn total_sum(bytes: &[u8], extra: u32) -> u64
 // Returns the sum of the octets as numbers, least significant octet first, up to multiples of
 // 65,535. Nearly each header of IPv4 has 20 octets, which take no other test of their length.
 fn sum_of_numbers(bytes: &[u8]) -> u64
-    ensures alike { sums.CountsAs (256 * result) (sums.word_sum bytes.now) }
+    ensures alike { sums_working.CountsAs (256 * result) (sums.word_sum bytes.now) }
     ensures small { result < 2 ^ 35 }
 {
     if bytes.len() == 20 {
@@ -70,7 +71,7 @@ fn sum_of_numbers(bytes: &[u8]) -> u64
 // Returns the sum of 20 octets as 32-bit numbers.
 fn sum_of_twenty(header: &[u8]) -> u64
     requires { length header.now ≡ 20 }
-    ensures alike { sums.CountsAs (256 * result) (sums.word_sum header.now) }
+    ensures alike { sums_working.CountsAs (256 * result) (sums.word_sum header.now) }
     ensures small { result < 2 ^ 35 }
 {
     let first = u64::from(lowest_first_at(header, 0)) + u64::from(lowest_first_at(header, 4));
@@ -84,7 +85,7 @@ fn sum_of_twenty(header: &[u8]) -> u64
 #[inline(never)]
 fn sum_of_few(bytes: &[u8]) -> u64
     requires { length bytes.now < 8 }
-    ensures alike { sums.CountsAs (256 * result) (sums.word_sum bytes.now) }
+    ensures alike { sums_working.CountsAs (256 * result) (sums.word_sum bytes.now) }
     ensures small { result < 2 ^ 35 }
 {
     if bytes.is_empty() {
@@ -98,7 +99,7 @@ fn sum_of_few(bytes: &[u8]) -> u64
 // 64 octets take a loop, so that a short packet takes none.
 fn sum_of_many(bytes: &[u8]) -> u64
     requires { 8 ≤ length bytes.now }
-    ensures alike { sums.CountsAs (256 * result) (sums.word_sum bytes.now) }
+    ensures alike { sums_working.CountsAs (256 * result) (sums.word_sum bytes.now) }
     ensures small { result < 2 ^ 35 }
 {
     let sum = sum_by_eight(bytes);
@@ -112,7 +113,7 @@ fn sum_of_many(bytes: &[u8]) -> u64
 
 // Returns the sum of all octets but the last 0 to 7 as 64-bit numbers.
 fn sum_by_eight(bytes: &[u8]) -> u128
-    ensures alike { sums.CountsUpTo (8 * (length bytes.now / 8)) result bytes.now }
+    ensures alike { sums_working.CountsUpTo (8 * (length bytes.now / 8)) result bytes.now }
     ensures small { result ≤ 18446744073709551615 * (length bytes.now / 8) }
 {
     let sum = sum_by_sixteen(bytes);
@@ -125,7 +126,7 @@ fn sum_by_eight(bytes: &[u8]) -> u128
 
 // Returns the sum of all octets but the last 0 to 15 as 64-bit numbers.
 fn sum_by_sixteen(bytes: &[u8]) -> u128
-    ensures alike { sums.CountsUpTo (16 * (length bytes.now / 16)) result bytes.now }
+    ensures alike { sums_working.CountsUpTo (16 * (length bytes.now / 16)) result bytes.now }
     ensures small { result ≤ 18446744073709551615 * (2 * (length bytes.now / 16)) }
 {
     let sum = sum_by_half(bytes);
@@ -139,7 +140,7 @@ fn sum_by_sixteen(bytes: &[u8]) -> u128
 
 // Returns the sum of all octets but the last 0 to 31 as 64-bit numbers.
 fn sum_by_half(bytes: &[u8]) -> u128
-    ensures alike { sums.CountsUpTo (32 * (length bytes.now / 32)) result bytes.now }
+    ensures alike { sums_working.CountsUpTo (32 * (length bytes.now / 32)) result bytes.now }
     ensures small { result ≤ 18446744073709551615 * (4 * (length bytes.now / 32)) }
 {
     let sum = sum_of_blocks(bytes);
@@ -153,7 +154,7 @@ fn sum_by_half(bytes: &[u8]) -> u128
 // Returns the sum of all octets but the last 0 to 63 as 64-bit numbers. It is below 2^125 for each
 // slice, so that no carry is folded on the way.
 fn sum_of_blocks(bytes: &[u8]) -> u128
-    ensures alike { sums.CountsUpTo (64 * (length bytes.now / 64)) result bytes.now }
+    ensures alike { sums_working.CountsUpTo (64 * (length bytes.now / 64)) result bytes.now }
     ensures small { result ≤ 18446744073709551615 * (8 * (length bytes.now / 64)) }
 {
     let mut sum: u128 = 0;
@@ -168,7 +169,7 @@ fn sum_of_blocks(bytes: &[u8]) -> u128
 fn with_half(sum: u128, bytes: &[u8], at: usize) -> u128
     requires inside { at + 32 ≤ length bytes.now }
     requires room { sum < 2 ^ 127 }
-    ensures alike { sums.CountsAs (256 * result + sums.word_sum (drop (at + 32) bytes.now)) (256 * sum + sums.word_sum (drop at bytes.now)) }
+    ensures alike { sums_working.CountsAs (256 * result + sums.word_sum (drop (at + 32) bytes.now)) (256 * sum + sums.word_sum (drop at bytes.now)) }
     ensures small { result ≤ sum + 18446744073709551615 * 4 }
 {
     let first = sum + u128::from(eight_at(bytes, at)) + u128::from(eight_at(bytes, at + 8));
@@ -178,7 +179,7 @@ fn with_half(sum: u128, bytes: &[u8], at: usize) -> u128
 // Returns a sum with its carries folded in: adds the bits above the low 64 to these, and then those
 // above the low 32.
 fn folded(sum: u128) -> u64
-    ensures alike { sums.CountsAs (256 * result) (256 * sum) }
+    ensures alike { sums_working.CountsAs (256 * result) (256 * sum) }
     ensures small { result < 2 ^ 35 }
 {
     let carried = (sum >> 64) + (sum & 0xffff_ffff_ffff_ffff);
@@ -188,7 +189,7 @@ fn folded(sum: u128) -> u64
 // Returns the 32-bit number at the offset `at`, least significant octet first.
 fn lowest_first_at(bytes: &[u8], at: usize) -> u32
     requires { at + 4 ≤ length bytes.now }
-    ensures { result ≡ sums.lowest_first_at bytes.now at }
+    ensures { result ≡ sums_working.lowest_first_at bytes.now at }
 {
     LittleEndian::read_u32(&bytes[at..])
 }
@@ -196,7 +197,7 @@ fn lowest_first_at(bytes: &[u8], at: usize) -> u32
 // Returns the 64-bit number at the offset `at`, least significant octet first.
 fn eight_at(bytes: &[u8], at: usize) -> u64
     requires { at + 8 ≤ length bytes.now }
-    ensures { result ≡ sums.eight_at bytes.now at }
+    ensures { result ≡ sums_working.eight_at bytes.now at }
 {
     LittleEndian::read_u64(&bytes[at..])
 }
@@ -207,7 +208,7 @@ fn last_at(bytes: &[u8], at: usize) -> u64
     requires long { 8 ≤ length bytes.now }
     requires inside { at < length bytes.now }
     requires last { length bytes.now ≤ at + 8 }
-    ensures { result ≡ sums.eight_at bytes.now at }
+    ensures { result ≡ sums_working.eight_at bytes.now at }
 {
     let front = bytes.len() - 8;
     eight_at(bytes, front) >> (8 * (at - front))

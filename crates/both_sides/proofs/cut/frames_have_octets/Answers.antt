@@ -1,4 +1,4 @@
-use Rattle.emit_mtu.specs.Frames.{AreOctets}
+use Rattle.emit_mtu.specs.FrameParts.{AreOctets}
 use Rattle.both_sides.proofs.Outputs.{all_more}
 use Rattle.both_sides.proofs.cut.frames_have_octets.Goals as goal
 

@@ -1,5 +1,5 @@
 use Rattle.std.proofs.Common.{take, All}
-use Rattle.emit_mtu.specs.Frames.{AreOctets}
+use Rattle.emit_mtu.specs.FrameParts.{AreOctets}
 use Rattle.both_sides.proofs.cut.frames_have_octets.Given as goal
 
 abbrev pub invariant-loop-index : goal.invariant-loop-index

@@ -1,6 +1,6 @@
 use Rattle.std.proofs.Common.{◌≡◌, take}
 use Rattle.std.specs.Io.KnownBytes.{Appends}
-use Rattle.pcap_file.specs.Reads.{shown}
+use Rattle.pcap_file.specs.RecordReading.{shown}
 use Rattle.both_sides.specs.Frames.{frame_octets}
 use Rattle.both_sides.proofs.cut.write_frames.Given as goal
 

@@ -1,5 +1,5 @@
 use Rattle.std.proofs.Common.{◌≡◌, length}
-use Rattle.pcap_file.specs.Reads.{shown}
+use Rattle.pcap_file.specs.RecordReading.{shown}
 use Rattle.emit_mtu.specs.Segments.{segments}
 use Rattle.both_sides.proofs.Outputs.{CutSoFar}
 use Rattle.both_sides.proofs.cut.write_segments.Given as goal

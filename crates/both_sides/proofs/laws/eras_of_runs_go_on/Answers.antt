@@ -1,4 +1,4 @@
-use Rattle.both_sides.proofs.RecordedRuns.{eras_of_runs_go_on}
+use Rattle.both_sides.proofs.BroughtRuns.{eras_of_runs_go_on}
 use Rattle.both_sides.proofs.laws.eras_of_runs_go_on.Goals as goal
 
 pub returns : goal.returns

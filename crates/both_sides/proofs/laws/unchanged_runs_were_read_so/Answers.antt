@@ -1,4 +1,4 @@
-use Rattle.both_sides.proofs.RecordedRuns.{runs_were_read_so}
+use Rattle.both_sides.proofs.BroughtRuns.{runs_were_read_so}
 use Rattle.both_sides.proofs.laws.unchanged_runs_were_read_so.Goals as goal
 
 pub returns : goal.returns

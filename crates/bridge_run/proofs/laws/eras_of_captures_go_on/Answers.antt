@@ -1,5 +1,5 @@
-use Rattle.both_sides.specs.Recorded.{ErasOfRunsGoOn}
-use Rattle.bridge_run.specs.Recorded.{NormalizedErasGoOn}
+use Rattle.both_sides.specs.RecordedHost.{ErasOfRunsGoOn}
+use Rattle.bridge_run.specs.RecordedHost.{NormalizedErasGoOn}
 use Rattle.bridge_run.proofs.laws.eras_of_captures_go_on.Goals as goal
 
 go_on : ErasOfRunsGoOn → NormalizedErasGoOn

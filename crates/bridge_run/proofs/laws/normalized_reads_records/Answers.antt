@@ -1,6 +1,6 @@
 use Rattle.wire_base.specs.declared.address.Link.{Link}
-use Rattle.norm_settings.specs.Settings.{PlainSettings}
-use Rattle.both_sides.specs.Runs.{RunTrace, one, two}
+use Rattle.norm_settings.specs.SettingValues.{PlainSettings}
+use Rattle.both_sides.specs.RunTraces.{RunTrace, one, two}
 use Rattle.both_sides.proofs.BroughtRuns.{ReadsOneStreamOf, run_reads_records}
 use Rattle.bridge_run.specs.Promises.{ReceiversReadOneStream}
 use Rattle.bridge_run.specs.Theorem.{NormalizedReadsRecords}

@@ -1,12 +1,12 @@
 use Rattle.std.proofs.Common.{◌≡◌, ◌≤◌, false, None, sym, ◌∙◌}
 use Rattle.std.proofs.lemmas.Bool.{false≢true}
 use Rattle.wire_base.specs.declared.address.Link.{Link}
-use Rattle.norm_settings.specs.Settings.{PlainSettings}
-use Rattle.norm_engine.specs.Recorded.{UnchangedWasReadSo}
-use Rattle.both_sides.specs.Cut.{written}
-use Rattle.both_sides.specs.Runs.{LawfulRun, RunHasOctets, RunTrace, one, trace_in, two}
-use Rattle.both_sides.specs.Recorded.{RunsWereReadSo}
-use Rattle.bridge_run.specs.Recorded.{NormalizedWasReadSo}
+use Rattle.norm_settings.specs.SettingValues.{PlainSettings}
+use Rattle.norm_engine.specs.RecordedHost.{UnchangedWasReadSo}
+use Rattle.both_sides.specs.WrittenTrace.{written}
+use Rattle.both_sides.specs.RunTraces.{LawfulRun, RunHasOctets, RunTrace, one, trace_in, two}
+use Rattle.both_sides.specs.RecordedHost.{RunsWereReadSo}
+use Rattle.bridge_run.specs.RecordedHost.{NormalizedWasReadSo}
 use Rattle.bridge_run.proofs.laws.unchanged_captures_were_read_so.Goals as goal
 
 run_was_read_so : RunsWereReadSo → (settings : PlainSettings) (link : Link) (run : RunTrace) → settings.hops ≤ 254 → settings.both ≡ false → settings.mtu ≡ None

@@ -1,9 +1,9 @@
 -- Any two receivers read alike what a run wrote inwards.
 use Rattle.wire_base.specs.declared.address.Link.{Link}
-use Rattle.norm_settings.specs.Settings.{PlainSettings}
-use Rattle.norm_engine.specs.Sending.{PlainIsReadAlike}
-use Rattle.both_sides.specs.Cut.{written}
-use Rattle.both_sides.specs.Runs.{RunTrace, one, two}
+use Rattle.norm_settings.specs.SettingValues.{PlainSettings}
+use Rattle.norm_engine.specs.SentFrames.{PlainIsReadAlike}
+use Rattle.both_sides.specs.WrittenTrace.{written}
+use Rattle.both_sides.specs.RunTraces.{RunTrace, one, two}
 use Rattle.bridge_run.specs.Promises.{InwardArePlain, MessagesAreReadAlike}
 use Rattle.bridge_run.specs.Theorem.{NormalizedIsReadAlike}
 use Rattle.bridge_run.proofs.laws.written_messages_are_read_alike.Goals as goal

@@ -1,6 +1,6 @@
 use Rattle.std.proofs.Common.{◌≡◌, take, flat_map}
 use Rattle.std.specs.Io.KnownBytes.{Appends}
-use Rattle.rule_book.specs.Loads.{load_text}
+use Rattle.rule_book.specs.LoadText.{load_text}
 use Rattle.bridge_run.proofs.load.put_lines.Given as goal
 
 -- the lines so far are written, and nothing failed

@@ -1,5 +1,5 @@
 use Rattle.std.proofs.Common.{rules, arith}
-use Rattle.pcap_file.specs.Reads.{shown}
+use Rattle.pcap_file.specs.RecordReading.{shown}
 use Rattle.rule_book.specs.Entries.{plain}
 use Rattle.bridge_run.proofs.Loads.{goes_on, counted_few, falls, tallied}
 use Rattle.bridge_run.proofs.load.tally_of.Goals as goal

@@ -1,16 +1,16 @@
 use Rattle.std.proofs.Common.{ℕ, List, Option, refl, rules, inl, inr, subst}
 use Rattle.std.specs.Io.KnownBytes.{Appends}
-use Rattle.edge_io.specs.Octets.{AppendsPart}
+use Rattle.edge_io.specs.KnownOctets.{AppendsPart}
 use Rattle.pcap_file.specs.declared.head.Head.{Head}
-use Rattle.pcap_file.specs.Heads.{head_octets}
-use Rattle.capture_input.specs.Reading.{head_in}
-use Rattle.capture_input.specs.Reads.{OpensAt, StopsInHead}
-use Rattle.norm_settings.specs.Settings.{plain_settings}
+use Rattle.pcap_file.specs.FileHead.{head_octets}
+use Rattle.capture_input.specs.ReaderState.{head_in}
+use Rattle.capture_input.specs.RecordReading.{OpensAt, StopsInHead}
+use Rattle.norm_settings.specs.SettingValues.{plain_settings}
 use Rattle.both_sides.specs.Sinks.{sinks_of}
 use Rattle.both_sides.proofs.Outputs.{part_of, whole_of}
-use Rattle.bridge_run.specs.Moments.{Moment, moment_of}
+use Rattle.bridge_run.specs.RunMoments.{Moment, moment_of}
 use Rattle.bridge_run.specs.Outputs.{first_outputs}
-use Rattle.bridge_run.specs.Stopped.{StopsAtHead}
+use Rattle.bridge_run.specs.StoppedRun.{StopsAtHead}
 use Rattle.bridge_run.proofs.Outputs.{first_broke, given_first, capture_broke, broke_behind, head_some}
 use Rattle.bridge_run.proofs.Statuses.{stands_faulty}
 use Rattle.bridge_run.proofs.runner.begin.Goals as goal

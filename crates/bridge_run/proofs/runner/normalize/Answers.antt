@@ -1,17 +1,18 @@
 use Rattle.std.proofs.Common.{◌≡◌, ℕ, ◌<◌, ◌^◌, rules, true, List, inl, inr, refl, sym, subst, ap, ◌∙◌, Option}
 use Rattle.std.proofs.lemmas.Result.{err_from_is_err_and, on_ok_weaker}
-use Rattle.capture_input.specs.Reading.{Behind}
-use Rattle.norm_settings.specs.Settings.{PlainSettings, plain_settings}
-use Rattle.both_sides.specs.Relays.{StandsForRun, is_full_of}
-use Rattle.both_sides.specs.Runs.{empty_run}
+use Rattle.capture_input.specs.ReaderState.{Behind}
+use Rattle.norm_settings.specs.SettingValues.{PlainSettings, plain_settings}
+use Rattle.both_sides.specs.RelayState.{StandsForRun, is_full_of}
+use Rattle.both_sides.specs.RunTraces.{empty_run}
 use Rattle.both_sides.specs.declared.fault.RelayFault.{RelayFault}
 use Rattle.both_sides.specs.declared.fault.RelayFault.TheVariants as sinks
 use Rattle.bridge_run.specs.declared.stop.Stop.{Stop}
-use Rattle.bridge_run.specs.Moments.{Moment, NoneRose, moment_of}
+use Rattle.bridge_run.specs.RunMoments.{Moment, NoneRose, moment_of}
 use Rattle.bridge_run.specs.Outputs.{stop_by}
-use Rattle.bridge_run.specs.Run.{Ended}
-use Rattle.bridge_run.specs.Stops.{FirstFault, FirstSinkFault, status_of}
-use Rattle.bridge_run.proofs.Runs.{begins, handed, stops_between, none_counted, fewer_left, goes_on, normalized, stops_at_packet, stops_at_end, stops_at_record, stops_at_too_many, took_end, took_more, if_err_weaker}
+use Rattle.bridge_run.specs.working.RunParts.{Ended}
+use Rattle.bridge_run.specs.StopReasons.{FirstFault, FirstSinkFault, status_of}
+use Rattle.bridge_run.proofs.Runs.{begins, handed, stops_between, none_counted, fewer_left, goes_on, stops_at_packet, stops_at_record, stops_at_too_many, took_more, if_err_weaker}
+use Rattle.bridge_run.proofs.RunEnds.{normalized, stops_at_end, took_end}
 use Rattle.bridge_run.proofs.Statuses.{first_at_sink, stands_faulty, stands_unwritten, input_is_not_7}
 use Rattle.bridge_run.proofs.runner.normalize.Goals as goal
 

@@ -1,8 +1,8 @@
 use Rattle.std.proofs.Common.{◌≡◌, ◌≤◌, ◌-◌, ◌^◌, true, length}
-use Rattle.capture_input.specs.Reading.{is_open_in}
-use Rattle.norm_settings.specs.Settings.{plain_settings}
-use Rattle.both_sides.specs.Relays.{records_of}
-use Rattle.bridge_run.specs.Moments.{moment_of}
+use Rattle.capture_input.specs.ReaderState.{is_open_in}
+use Rattle.norm_settings.specs.SettingValues.{plain_settings}
+use Rattle.both_sides.specs.RelayState.{records_of}
+use Rattle.bridge_run.specs.RunMoments.{moment_of}
 use Rattle.bridge_run.proofs.Runs.{Going}
 use Rattle.bridge_run.proofs.runner.normalize.Given as goal
 

@@ -1,6 +1,6 @@
 use Rattle.std.proofs.Common.{inl, inr}
-use Rattle.norm_settings.specs.Asked.{plain_names}
-use Rattle.norm_settings.specs.Settings.{plain_settings}
+use Rattle.norm_settings.specs.AskedCommand.{plain_names}
+use Rattle.norm_settings.specs.SettingValues.{plain_settings}
 use Rattle.bridge_run.proofs.runner.run.Goals as goal
 
 pub run_capture-requires-clause-together : goal.run_capture-requires-clause-together

@@ -1,4 +1,4 @@
-use Rattle.bridge_run.proofs.Outputs.{told_behind, told_after, kept_by}
+use Rattle.bridge_run.proofs.Statuses.{told_behind, told_after, kept_by}
 use Rattle.bridge_run.proofs.stop.tell_stop.Goals as goal
 
 pub returns-in-At-clause-told : goal.returns-in-At-clause-told

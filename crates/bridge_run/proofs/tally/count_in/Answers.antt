@@ -1,4 +1,4 @@
-use Rattle.bridge_run.proofs.Tallies.{passed, any_more}
+use Rattle.bridge_run.proofs.Loads.{passed, any_more}
 use Rattle.bridge_run.proofs.tally.count_in.Goals as goal
 
 pub loop-row-preserved : goal.loop-row-preserved

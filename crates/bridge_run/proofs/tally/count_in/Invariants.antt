@@ -1,7 +1,7 @@
 use Rattle.std.proofs.Common.{◌≡◌, ◌<◌, ◌+◌, ◌^◌, All, ◌++◌, map, take, drop}
 use Rattle.std.specs.List.{list_any}
 use Rattle.bridge_run.specs.Summary.{is_same}
-use Rattle.bridge_run.specs.Counting.{counted_once}
+use Rattle.bridge_run.specs.working.RuleCounts.{counted_once}
 use Rattle.bridge_run.proofs.tally.count_in.Given as goal
 
 -- the counts so far are updated, and the others are unchanged

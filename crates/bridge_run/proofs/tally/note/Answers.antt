@@ -1,6 +1,6 @@
 use Rattle.std.proofs.Common.{◌+◌, ◌<◌, All, sym, ◌∙◌, subst, arith}
 use Rattle.bridge_run.specs.declared.tally.RuleCount.{RuleCount}
-use Rattle.bridge_run.proofs.Tallies.{counts_few, counted_new, counted_again, has_room}
+use Rattle.bridge_run.proofs.Loads.{counts_few, counted_new, counted_again, has_room}
 use Rattle.bridge_run.proofs.tally.note.Goals as goal
 
 pub count_in-requires : goal.count_in-requires

@@ -2,7 +2,7 @@ use Rattle.std.proofs.Common.{◌≡◌, length, take, drop, ap, sym, ◌∙◌,
 use Rattle.wire_base.specs.Ipv4 as ip
 use Rattle.wire_base.specs.Tcp as tcp
 use Rattle.wire_base.specs.Frames.{packet_in}
-use Rattle.emit_mtu.specs.Frames.{AreSized}
+use Rattle.emit_mtu.specs.working.PartSizes.{AreSized}
 use Rattle.emit_mtu.proofs.Frames.{are_sized, is_faultless, payload_is}
 use Rattle.emit_mtu.proofs.parts.parts_of.Goals as goal
 

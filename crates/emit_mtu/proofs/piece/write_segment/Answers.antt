@@ -1,5 +1,5 @@
 use Rattle.std.proofs.Common.{length, ap, arith}
-use Rattle.emit_mtu.specs.Frames.{Parts}
+use Rattle.emit_mtu.specs.FrameParts.{Parts}
 use Rattle.emit_mtu.proofs.Headers.{length-segment_of}
 use Rattle.emit_mtu.proofs.piece.write_segment.Goals as goal
 

@@ -1,6 +1,6 @@
 use Rattle.std.proofs.Common.{◌∙◌, ap, sym, max}
-use Rattle.era_state.specs.Marks.{edge_place}
-use Rattle.era_state.specs.Read.{sent}
+use Rattle.era_state.specs.SegmentMarks.{edge_place}
+use Rattle.era_state.specs.SegmentFields.{sent}
 use Rattle.era_state.proofs.warm.greater_edge.Goals as goal
 
 pub returns-in-Some-clause-value : goal.returns-in-Some-clause-value

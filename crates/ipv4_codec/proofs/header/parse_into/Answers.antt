@@ -1,7 +1,7 @@
 use Rattle.std.proofs.Common.{◌≡◌, None, Ok, ap, sym, ◌∙◌, arith}
 use Rattle.std.proofs.lemmas.Bool.Decides.{nat_tests}
-use Rattle.wire_base.specs.Reading.{value_or_fault}
-use Rattle.ipv4_codec.specs.Header.{fault_of, fields_of}
+use Rattle.wire_base.specs.ParseResults.{value_or_fault}
+use Rattle.ipv4_codec.specs.HeaderFields.{fault_of, fields_of}
 use Rattle.ipv4_codec.proofs.header.parse_into.Goals as goal
 
 pub returns-clause-exact : goal.returns-clause-exact

@@ -1,6 +1,6 @@
 use Rattle.std.proofs.Common.{◌≡◌, ◌+◌, length, drop, ap, ◌∙◌, sym, length-take-le}
-use Rattle.ipv4_codec.specs.Header.{fields_of}
-use Rattle.ipv4_codec.specs.Write.{octets_of, plain_fields}
+use Rattle.ipv4_codec.specs.HeaderFields.{fields_of}
+use Rattle.ipv4_codec.specs.WrittenHeader.{octets_of, plain_fields}
 use Rattle.ipv4_codec.proofs.PlainHeaders.{with_u16-octets_of, fields_of-checksum}
 use Rattle.ipv4_codec.proofs.write.write_plain.Goals as goal
 

@@ -1,5 +1,5 @@
 use Rattle.std.proofs.Common.{refl, arith}
-use Rattle.linked_table.specs.Sound.{bucket_number}
+use Rattle.linked_table.specs.working.SoundTable.{bucket_number}
 use Rattle.linked_table.proofs.Nodes.{bucket_below}
 use Rattle.linked_table.proofs.table.bucket_of.Goals as goal
 

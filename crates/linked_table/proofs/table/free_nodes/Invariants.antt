@@ -1,4 +1,4 @@
-use Rattle.linked_table.specs.Nodes.{columns}
+use Rattle.linked_table.specs.NodeColumns.{columns}
 use Rattle.linked_table.proofs.Nodes.{AreFreed}
 use Rattle.linked_table.proofs.table.free_nodes.Given as goal
 

@@ -1,6 +1,6 @@
 use Rattle.std.proofs.Common.{[], ◌∷◌, ◌++◌, length, ap, ◌∙◌, arith}
 use Rattle.std.proofs.lemmas.List.FromFn.{length-map-range_with_len}
-use Rattle.linked_table.specs.Nodes.{lone_node}
+use Rattle.linked_table.specs.working.NodeLinks.{lone_node}
 use Rattle.linked_table.proofs.Nodes.{lone_more}
 use Rattle.linked_table.proofs.table.lone_nodes.Goals as goal
 

@@ -1,6 +1,6 @@
 use Rattle.std.proofs.Common.{◌≡◌, ◌+◌, length, ap, ◌∙◌, refl, length-append, arith}
-use Rattle.ipv4_codec.specs.Write.{plain_header}
-use Rattle.tcp_codec.specs.Write.{segment_octets, segment_of}
+use Rattle.ipv4_codec.specs.WrittenHeader.{plain_header}
+use Rattle.tcp_codec.specs.WrittenSegment.{segment_octets, segment_of}
 use Rattle.load_make.specs.Packets.{head_of, packet_octets, segment_for}
 use Rattle.load_make.proofs.Flows.{filled}
 use Rattle.load_make.proofs.packet.write_packet.Goals as goal

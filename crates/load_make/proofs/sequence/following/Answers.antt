@@ -1,5 +1,5 @@
 use Rattle.std.proofs.Common.{arith}
-use Rattle.load_make.specs.Sequence.{following}
+use Rattle.load_make.specs.NumberSequence.{following}
 use Rattle.load_make.proofs.sequence.following.Goals as goal
 
 pub returns : goal.returns

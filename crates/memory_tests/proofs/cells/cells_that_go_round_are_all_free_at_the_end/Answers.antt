@@ -1,5 +1,5 @@
 use Rattle.std.proofs.Common.{[], ◌∷◌, None, refl, sym, arith}
-use Rattle.cell_pool.specs.Lists.{empty_cell}
+use Rattle.cell_pool.specs.ChainLists.{empty_cell}
 use Rattle.cell_pool.proofs.KnownChains.{opened, in_range, place_for, takes, cell_after, gives}
 use Rattle.memory_tests.proofs.cells.cells_that_go_round_are_all_free_at_the_end.Goals as goal
 

@@ -1,6 +1,7 @@
 use Rattle.std.proofs.Common.{◌≡◌, map, drop, is_some}
-use Rattle.norm_settings.specs.Options.{name_of}
-use Rattle.norm_settings.specs.Line.{plain_use, given}
+use Rattle.norm_settings.specs.OptionTable.{name_of}
+use Rattle.norm_settings.specs.working.PlainLines.{plain_use}
+use Rattle.norm_settings.specs.RunWords.{given}
 use Rattle.norm_settings.proofs.line.is_given.Given as goal
 
 abbrev pub invariant-loop-used : goal.invariant-loop-used

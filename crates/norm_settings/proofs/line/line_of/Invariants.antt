@@ -1,5 +1,6 @@
 use Rattle.std.proofs.Common.{◌≡◌, map, drop, string_bytes}
-use Rattle.norm_settings.specs.Line.{plain_use, line_of}
+use Rattle.norm_settings.specs.working.PlainLines.{plain_use}
+use Rattle.norm_settings.specs.RunWords.{line_of}
 use Rattle.norm_settings.proofs.Grammar.{line_from}
 use Rattle.norm_settings.proofs.line.line_of.Given as goal
 

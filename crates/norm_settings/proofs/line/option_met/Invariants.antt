@@ -1,6 +1,6 @@
 use Rattle.std.proofs.Common.{◌≡◌, drop}
-use Rattle.norm_settings.specs.Options.{all_choices}
-use Rattle.norm_settings.specs.Line.{word_in}
+use Rattle.norm_settings.specs.OptionTable.{all_choices}
+use Rattle.norm_settings.specs.RunWords.{word_in}
 use Rattle.norm_settings.proofs.line.option_met.Given as goal
 
 abbrev pub invariant-loop-choice : goal.invariant-loop-choice

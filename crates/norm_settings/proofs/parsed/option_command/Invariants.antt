@@ -1,7 +1,7 @@
 use Rattle.std.proofs.Common.{◌≡◌, map, drop, fold}
 use Rattle.clap.specs.Simple.{app_of, with_rule}
-use Rattle.norm_settings.specs.Options.{all_choices}
-use Rattle.norm_settings.specs.Found.{bare, rule_for}
+use Rattle.norm_settings.specs.OptionTable.{all_choices}
+use Rattle.norm_settings.specs.working.ClapCommands.{bare, rule_for}
 use Rattle.norm_settings.proofs.parsed.option_command.Given as goal
 
 abbrev pub invariant-loop-choice : goal.invariant-loop-choice

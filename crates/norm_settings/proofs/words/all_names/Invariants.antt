@@ -1,6 +1,6 @@
 use Rattle.std.proofs.Common.{◌≡◌, map, drop, string_bytes}
 use Rattle.std.specs.List.{list_all}
-use Rattle.norm_settings.specs.Options.{is_name}
+use Rattle.norm_settings.specs.OptionTable.{is_name}
 use Rattle.norm_settings.proofs.words.all_names.Given as goal
 
 abbrev pub invariant-loop-word : goal.invariant-loop-word

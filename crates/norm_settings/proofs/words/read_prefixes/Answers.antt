@@ -1,6 +1,6 @@
 use Rattle.std.proofs.Common.{◌≤◌, ap, sym, ◌∙◌, map, drop, [], ◌∷◌, ◌+◌, rules}
 use Rattle.std.proofs.lemmas.List.Elements.{All-append}
-use Rattle.norm_settings.specs.Asked.{prefixes_from}
+use Rattle.norm_settings.specs.AskedCommand.{prefixes_from}
 use Rattle.norm_settings.proofs.Runs.{one, one_more}
 use Rattle.norm_settings.proofs.words.read_prefixes.Goals as goal
 

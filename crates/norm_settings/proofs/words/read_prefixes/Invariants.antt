@@ -1,5 +1,5 @@
 use Rattle.std.proofs.Common.{◌≡◌, ◌≤◌, All, map, drop, length, []}
-use Rattle.norm_settings.specs.Asked.{prefixes_from}
+use Rattle.norm_settings.specs.AskedCommand.{prefixes_from}
 use Rattle.norm_settings.proofs.words.read_prefixes.Given as goal
 
 abbrev pub invariant-loop-place : goal.invariant-loop-place

@@ -1,8 +1,9 @@
 use Rattle.std.proofs.Common.{◌≡◌, true, rules, ◌∙◌, map, string_bytes, inl, inr, ⊎_elim, Some}
 use Rattle.std.proofs.lemmas.Result.{IfErr-weaker, IfOk-weaker}
-use Rattle.norm_settings.specs.Line.{plain_line, line_of}
+use Rattle.norm_settings.specs.working.PlainLines.{plain_line}
+use Rattle.norm_settings.specs.RunWords.{line_of}
 use Rattle.norm_settings.proofs.Runs.{line_goes, asked_is}
-use Rattle.norm_settings.specs.Asked.{is_whole, go_together}
+use Rattle.norm_settings.specs.AskedCommand.{is_whole, go_together}
 use Rattle.norm_settings.proofs.words.read_run.Goals as goal
 
 pub returns-in-Ok-clause-ok : goal.returns-in-Ok-clause-ok

@@ -1,8 +1,8 @@
 use Rattle.std.proofs.Common.{◌≡◌, List, false, map, string_bytes, nat_lt, length, ap₂, sym, ◌∙◌, rules, Ok, bytes_eq}
-use Rattle.norm_settings.specs.Settings.{plain_settings, settings_of}
-use Rattle.norm_settings.specs.Options.{Text}
-use Rattle.norm_settings.specs.Line.{given}
-use Rattle.norm_settings.specs.Asked.{run}
+use Rattle.norm_settings.specs.SettingValues.{plain_settings, settings_of}
+use Rattle.norm_settings.specs.OptionTable.{Text}
+use Rattle.norm_settings.specs.RunWords.{given}
+use Rattle.norm_settings.specs.AskedCommand.{run}
 use Rattle.norm_settings.proofs.Runs.{names_are, run_reads, few_enough}
 use Rattle.norm_settings.proofs.words.run_found.Goals as goal
 

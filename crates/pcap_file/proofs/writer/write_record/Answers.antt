@@ -1,6 +1,6 @@
 use Rattle.std.proofs.Common.{rules}
 use Rattle.std.proofs.lemmas.Result.{err_from_is_err_and}
-use Rattle.edge_io.proofs.Parts.{part_of_first, part_behind}
+use Rattle.edge_io.proofs.Moves.{part_of_first, part_behind}
 use Rattle.pcap_file.proofs.writer.write_record.Goals as goal
 
 pub returns-in_err-put-clause-octets : goal.returns-in_err-put-clause-octets

@@ -2,7 +2,7 @@ use Rattle.std.proofs.Common.{rules, arith, ◌≡◌, ◌≤◌, ◌∙◌, len
 use Rattle.std.proofs.lemmas.Result.{err_from_is_err_and}
 use Rattle.std.proofs.KnownBytes.{Consumes-trans}
 use Rattle.pcapng_file.specs.declared.content.Content.{Content}
-use Rattle.pcapng_file.specs.Standing.{known}
+use Rattle.pcapng_file.specs.SectionState.{known}
 use Rattle.pcapng_file.proofs.Contents.{IsPlaced, content_placed, more_fits}
 use Rattle.pcapng_file.proofs.BlockReads.{short_behind}
 use Rattle.pcapng_file.proofs.Fronts.{is_bigger}

@@ -1,6 +1,6 @@
 use Rattle.std.proofs.Common.{rules, ◌≡◌, ◌-◌, length, take, refl, sym, ◌∙◌, arith}
 use Rattle.std.proofs.lemmas.Result.{err_from_is_err_and}
-use Rattle.pcapng_file.specs.Options.{padded}
+use Rattle.pcapng_file.specs.InterfaceOptions.{padded}
 use Rattle.pcapng_file.proofs.Options.{sees_nothing, short_options, short_option, sees_all, sees_end, sees_past, sees_more, sees_wrong, value_kept}
 use Rattle.pcapng_file.proofs.BlockReads.{short_behind}
 use Rattle.pcapng_file.proofs.interface.read_options.Goals as goal

@@ -1,5 +1,5 @@
 use Rattle.std.proofs.Common.{◌≡◌, ◌-◌, ◌≤◌}
-use Rattle.pcapng_file.specs.Takes.{TakesCount}
+use Rattle.pcapng_file.specs.working.PartReading.{TakesCount}
 use Rattle.pcapng_file.proofs.take.pass.Given as goal
 
 -- the octets that are no longer left to skip were taken

@@ -1,6 +1,6 @@
 use Rattle.std.proofs.Common.{◌∙◌, ap}
 use Rattle.retain_store.specs.Maps.{chain_of}
-use Rattle.reassembly.specs.Rows.{clashes}
+use Rattle.reassembly.specs.RuleRows.{clashes}
 use Rattle.reassembly.proofs.Pieces.{clash_is}
 use Rattle.reassembly.proofs.odds.clashes.Goals as goal
 

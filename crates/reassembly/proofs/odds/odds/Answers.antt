@@ -1,8 +1,8 @@
 use Rattle.std.proofs.Common.{◌≡◌, false, cond, Option, None, Some, ◌∙◌, ap, ap₂, sym}
 use Rattle.rule_book.specs.declared.rule.Rule.{Rule}
 use Rattle.rule_book.specs.declared.rule.Rule.TheVariants.{FEnd, FClash}
-use Rattle.reassembly.specs.Pieces.{fragment_of}
-use Rattle.reassembly.specs.Rows.{ends_otherwise, f_end, f_clash}
+use Rattle.reassembly.specs.DatagramFragments.{fragment_of}
+use Rattle.reassembly.specs.RuleRows.{ends_otherwise, f_end, f_clash}
 use Rattle.reassembly.proofs.odds.odds.Goals as goal
 
 pub returns-clause-row : goal.returns-clause-row

@@ -1,7 +1,7 @@
 use Rattle.std.proofs.Common.{◌≡◌, ℕ, ◌∙◌, ◌∷◌, length, ap, subst, is_none}
 use Rattle.std.specs.List.{count_by, range_with_len}
 use Rattle.retain_store.specs.Maps.{Places, chain_of, fresh}
-use Rattle.reassembly.specs.Pieces.{fragment_of, octet_of}
+use Rattle.reassembly.specs.DatagramFragments.{fragment_of, octet_of}
 use Rattle.reassembly.proofs.Pieces.{placed, progress_more, fresh_is, cells_are}
 use Rattle.reassembly.proofs.take.take.Goals as goal
 

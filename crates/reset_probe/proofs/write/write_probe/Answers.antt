@@ -1,7 +1,7 @@
 use Rattle.std.proofs.Common.{rules, ◌≡◌, ◌++◌, length, ap, ◌∙◌, drop, arith}
-use Rattle.ipv4_codec.specs.Write.{plain_header}
-use Rattle.tcp_codec.specs.Write.{segment_octets}
-use Rattle.reset_probe.specs.Write.{probe_segment}
+use Rattle.ipv4_codec.specs.WrittenHeader.{plain_header}
+use Rattle.tcp_codec.specs.WrittenSegment.{segment_octets}
+use Rattle.reset_probe.specs.ProbePackets.{probe_segment}
 use Rattle.reset_probe.proofs.Packets.{joined, probes_are_plain}
 use Rattle.reset_probe.proofs.write.write_probe.Goals as goal
 

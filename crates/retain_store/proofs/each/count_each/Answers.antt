@@ -1,6 +1,6 @@
 use Rattle.std.proofs.Common.{◌≡◌, ℕ, ◌+◌, Bool, true, false, not, Option, Some, None, refl, ap, arith, sym, ◌∙◌, is_none, is_some}
 use Rattle.retain_store.specs.Maps.{octet_at}
-use Rattle.retain_store.specs.Seats.{blocks_in}
+use Rattle.retain_store.specs.working.BlockCells.{blocks_in}
 use Rattle.retain_store.proofs.Counts.{count_most, counted_yes, counted_no}
 use Rattle.retain_store.proofs.each.count_each.Goals as goal
 use Rattle.retain_store.proofs.each.count_each.Goals.{then-none, else-none}

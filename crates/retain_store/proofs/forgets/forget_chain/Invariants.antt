@@ -1,6 +1,6 @@
 use Rattle.std.proofs.Common.{length}
-use Rattle.cell_pool.specs.Lists.{chain_at}
-use Rattle.retain_store.specs.Changes.{IsChanged}
+use Rattle.cell_pool.specs.ChainLists.{chain_at}
+use Rattle.retain_store.specs.working.PoolChanges.{IsChanged}
 use Rattle.retain_store.proofs.forgets.forget_chain.Given as goal
 
 abbrev pub invariant-loop-pool : goal.invariant-loop-pool

@@ -1,5 +1,5 @@
 use Rattle.std.proofs.Common.{◌<◌, length, sym, ap, ◌∙◌, arith}
-use Rattle.cell_pool.specs.Lists.{chain_at}
+use Rattle.cell_pool.specs.ChainLists.{chain_at}
 use Rattle.retain_store.proofs.Segments.{inside_then, changed_then}
 use Rattle.retain_store.proofs.Fronts.{first_below, has_first, rest_is, given_changed, given_kept, given_blocks, given_near, forgets_blocks}
 use Rattle.retain_store.proofs.forgets.free_below.Goals as goal

@@ -1,8 +1,8 @@
 use Rattle.std.proofs.Common.{◌≡◌, ◌≤◌, ℕ, length}
-use Rattle.cell_pool.specs.Lists.{chain_at}
+use Rattle.cell_pool.specs.ChainLists.{chain_at}
 use Rattle.retain_store.specs.Maps.{block_at}
-use Rattle.retain_store.specs.Seats.{blocks_in, IsKept}
-use Rattle.retain_store.specs.Changes.{IsChanged, KeepsAbove}
+use Rattle.retain_store.specs.working.BlockCells.{blocks_in, IsKept}
+use Rattle.retain_store.specs.working.PoolChanges.{IsChanged, KeepsAbove}
 use Rattle.retain_store.proofs.forgets.free_below.Given as goal
 
 abbrev pub invariant-loop-chain : goal.invariant-loop-chain

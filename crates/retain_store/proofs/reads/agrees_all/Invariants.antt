@@ -1,6 +1,6 @@
 use Rattle.std.proofs.Common.{◌≤◌, ◌-◌, length}
-use Rattle.cell_pool.specs.Lists.{chain_at}
-use Rattle.retain_store.specs.Seats.{blocks_in, IsNear}
+use Rattle.cell_pool.specs.ChainLists.{chain_at}
+use Rattle.retain_store.specs.working.BlockCells.{blocks_in, IsNear}
 use Rattle.retain_store.proofs.Parts.{AgreesTo}
 use Rattle.retain_store.proofs.reads.agrees_all.Given as goal
 

@@ -4,7 +4,7 @@ use Rattle.std.proofs.lemmas.List.Edits.{length-between}
 use borrow.Rule.Slice.PartMut.{put_mid}
 use Rattle.cell_pool.proofs.Runs.{length-put}
 use Rattle.retain_store.specs.Maps.{octet_at, Covers}
-use Rattle.retain_store.specs.Seats.{blocks_in}
+use Rattle.retain_store.specs.working.BlockCells.{blocks_in}
 use Rattle.retain_store.proofs.Parts.{covers_part, copied_then}
 use Rattle.retain_store.proofs.reads.copy.Goals as goal
 

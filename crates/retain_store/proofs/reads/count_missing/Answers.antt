@@ -1,6 +1,6 @@
 use Rattle.std.proofs.Common.{◌≡◌, ℕ, ◌+◌, ◌/◌, Bool, not, ap, arith, sym, ◌∙◌}
 use Rattle.retain_store.specs.Maps.{holds}
-use Rattle.retain_store.specs.Seats.{blocks_in}
+use Rattle.retain_store.specs.working.BlockCells.{blocks_in}
 use Rattle.retain_store.proofs.Counts.{count_most, counted_yes, counted_no}
 use Rattle.retain_store.proofs.reads.count_missing.Goals as goal
 use Rattle.retain_store.proofs.reads.count_missing.Goals.{then-not-held, else-not-held}

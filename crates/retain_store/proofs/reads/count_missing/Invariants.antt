@@ -1,8 +1,8 @@
 use Rattle.std.proofs.Common.{◌≡◌, not}
 use Rattle.std.specs.List.{count_by, range_with_len}
-use Rattle.cell_pool.specs.Lists.{chain_at}
+use Rattle.cell_pool.specs.ChainLists.{chain_at}
 use Rattle.retain_store.specs.Maps.{holds}
-use Rattle.retain_store.specs.Seats.{blocks_in, IsNear}
+use Rattle.retain_store.specs.working.BlockCells.{blocks_in, IsNear}
 use Rattle.retain_store.proofs.reads.count_missing.Given as goal
 
 abbrev pub invariant-loop-index : goal.invariant-loop-index

@@ -1,6 +1,6 @@
 use Rattle.std.proofs.Common.{◌≡◌, ◌+◌, true, false, subst, sym, ◌∙◌, arith}
 use Rattle.retain_store.specs.Maps.{Covers}
-use Rattle.retain_store.specs.Seats.{blocks_in}
+use Rattle.retain_store.specs.working.BlockCells.{blocks_in}
 use Rattle.retain_store.proofs.Parts.{covers_then, covers_part}
 use Rattle.retain_store.proofs.reads.covers_all.Goals as goal
 

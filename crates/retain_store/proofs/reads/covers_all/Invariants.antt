@@ -1,7 +1,7 @@
 use Rattle.std.proofs.Common.{◌≤◌, ◌-◌}
-use Rattle.cell_pool.specs.Lists.{chain_at}
+use Rattle.cell_pool.specs.ChainLists.{chain_at}
 use Rattle.retain_store.specs.Maps.{Covers}
-use Rattle.retain_store.specs.Seats.{blocks_in, IsNear}
+use Rattle.retain_store.specs.working.BlockCells.{blocks_in, IsNear}
 use Rattle.retain_store.proofs.reads.covers_all.Given as goal
 
 abbrev pub invariant-loop-done : goal.invariant-loop-done

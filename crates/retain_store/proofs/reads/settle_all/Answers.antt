@@ -3,7 +3,7 @@ use Rattle.std.proofs.lemmas.List.Edits.{length-between}
 use borrow.Rule.Slice.PartMut.{put_mid}
 use Rattle.cell_pool.proofs.Runs.{length-put}
 use Rattle.retain_store.specs.Maps.{octet_at}
-use Rattle.retain_store.specs.Seats.{blocks_in}
+use Rattle.retain_store.specs.working.BlockCells.{blocks_in}
 use Rattle.retain_store.proofs.Parts.{settled_then, left_then, same_then}
 use Rattle.retain_store.proofs.reads.settle_all.Goals as goal
 

@@ -1,7 +1,7 @@
 use Rattle.std.proofs.Common.{◌<◌, ◌-◌, ◌/◌, sym, subst, ◌∙◌, arith}
 use Rattle.std.proofs.lemmas.Bool.Decides.{nat_tests}
-use Rattle.cell_pool.specs.Lists.{chain_at, IsBlank}
-use Rattle.retain_store.specs.Seats.{IsAmong}
+use Rattle.cell_pool.specs.ChainLists.{chain_at, IsBlank}
+use Rattle.retain_store.specs.working.BlockCells.{IsAmong}
 use Rattle.retain_store.proofs.Cells.{stands, within_behind, within_last}
 use Rattle.retain_store.proofs.seat.ends_before.Goals as goal
 

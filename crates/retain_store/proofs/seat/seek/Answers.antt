@@ -1,6 +1,6 @@
 use Rattle.std.proofs.Common.{◌<◌, ◌∙◌, sym, arith}
-use Rattle.cell_pool.specs.Lists.{chain_at}
-use Rattle.retain_store.specs.Seats.{IsAmong}
+use Rattle.cell_pool.specs.ChainLists.{chain_at}
+use Rattle.retain_store.specs.working.BlockCells.{IsAmong}
 use Rattle.retain_store.proofs.Cells.{stands, from_cell, walk_ends}
 use Rattle.retain_store.proofs.seat.seek.Goals as goal
 

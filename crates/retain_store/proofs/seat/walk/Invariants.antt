@@ -1,5 +1,5 @@
-use Rattle.cell_pool.specs.Lists.{chain_at}
-use Rattle.retain_store.specs.Seats.{IsWalk}
+use Rattle.cell_pool.specs.ChainLists.{chain_at}
+use Rattle.retain_store.specs.working.BlockCells.{IsWalk}
 use Rattle.retain_store.proofs.seat.walk.Given as goal
 
 abbrev pub invariant-loop : goal.invariant-loop

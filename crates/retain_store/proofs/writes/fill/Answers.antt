@@ -1,6 +1,6 @@
 use Rattle.std.proofs.Common.{ℕ, List, Option, refl, sym, subst, arith}
-use Rattle.cell_pool.specs.Lists.{Writes, with_run}
-use Rattle.retain_store.specs.Changes.{with_octets}
+use Rattle.cell_pool.specs.ChainLists.{Writes, with_run}
+use Rattle.retain_store.specs.working.PoolChanges.{with_octets}
 use Rattle.retain_store.proofs.Cells.{is_held, writes_nothing, writes_same}
 use Rattle.retain_store.proofs.Blocks.{cell_near}
 use Rattle.retain_store.proofs.Parts.{covered_told, fresh_all, fresh_none, piece_blank}

@@ -1,6 +1,6 @@
 use Rattle.std.proofs.Common.{◌+◌, ℕ, List, [], get_or, take, subst, take_all}
-use Rattle.cell_pool.specs.Lists.{Writes}
-use Rattle.retain_store.specs.Changes.{with_octet, with_octets}
+use Rattle.cell_pool.specs.ChainLists.{Writes}
+use Rattle.retain_store.specs.working.PoolChanges.{with_octet, with_octets}
 use Rattle.retain_store.proofs.Cells.{writes_nothing, writes_then, held_on}
 use Rattle.retain_store.proofs.Segments.{with_octets_none, with_octets_more}
 use Rattle.retain_store.proofs.writes.fill_each.Goals as goal

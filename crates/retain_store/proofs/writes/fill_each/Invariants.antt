@@ -1,6 +1,6 @@
 use Rattle.std.proofs.Common.{take}
-use Rattle.cell_pool.specs.Lists.{IsHeld, Writes}
-use Rattle.retain_store.specs.Changes.{with_octets}
+use Rattle.cell_pool.specs.ChainLists.{IsHeld, Writes}
+use Rattle.retain_store.specs.working.PoolChanges.{with_octets}
 use Rattle.retain_store.proofs.writes.fill_each.Given as goal
 
 abbrev pub invariant-loop-index : goal.invariant-loop-index

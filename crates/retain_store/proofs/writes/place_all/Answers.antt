@@ -2,9 +2,9 @@ use Rattle.std.proofs.Common.{◌≡◌, ℕ, ◌+◌, ◌-◌, ◌/◌, ◌%◌
 use Rattle.std.proofs.lemmas.Bool.{cases_lt}
 use Rattle.std.specs.List.{between}
 use Rattle.std.proofs.lemmas.List.Edits.{length-between}
-use Rattle.cell_pool.specs.Lists.{chain_at}
+use Rattle.cell_pool.specs.ChainLists.{chain_at}
 use Rattle.retain_store.specs.Maps.{Places, fresh, holds, missing}
-use Rattle.retain_store.specs.Seats.{blocks_in}
+use Rattle.retain_store.specs.working.BlockCells.{blocks_in}
 use Rattle.retain_store.proofs.Parts.{fresh_most, fresh_same, fresh_then}
 use Rattle.retain_store.proofs.Room.{first_held, missing_step}
 use Rattle.retain_store.proofs.Segments.{placed_behind, places_then, pieces_join, changed_then}

@@ -1,8 +1,8 @@
 use Rattle.std.proofs.Common.{◌≡◌, ◌+◌, ◌-◌, ◌≤◌, length, take}
-use Rattle.cell_pool.specs.Lists.{chain_at}
+use Rattle.cell_pool.specs.ChainLists.{chain_at}
 use Rattle.retain_store.specs.Maps.{fresh, missing, Places}
-use Rattle.retain_store.specs.Seats.{blocks_in, IsKept, IsNear}
-use Rattle.retain_store.specs.Changes.{IsChanged}
+use Rattle.retain_store.specs.working.BlockCells.{blocks_in, IsKept, IsNear}
+use Rattle.retain_store.specs.working.PoolChanges.{IsChanged}
 use Rattle.retain_store.proofs.writes.place_all.Given as goal
 
 abbrev pub invariant-loop-done : goal.invariant-loop-done

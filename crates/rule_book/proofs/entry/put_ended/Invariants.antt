@@ -1,5 +1,5 @@
 use Rattle.std.proofs.Common.{◌≡◌, ◌+◌, ◌*◌, ◌≤◌, take, flat_map}
-use Rattle.rule_book.specs.Lines.{Adds}
+use Rattle.rule_book.specs.working.LineBuffers.{Adds}
 use Rattle.rule_book.specs.Text.{ended_part}
 use Rattle.rule_book.proofs.entry.put_ended.Given as goal
 

@@ -1,5 +1,5 @@
 use Rattle.std.proofs.Common.{◌≡◌, ◌+◌, ◌*◌, ◌≤◌, take}
-use Rattle.rule_book.specs.Lines.{Adds}
+use Rattle.rule_book.specs.working.LineBuffers.{Adds}
 use Rattle.rule_book.specs.Text.{rule_parts}
 use Rattle.rule_book.proofs.entry.put_rules.Given as goal
 

@@ -1,6 +1,6 @@
 use Rattle.std.proofs.Common.{length, refl, ◌∙◌}
 use Rattle.rule_book.proofs.Entries.{awaits_at, awaits_done, awaits_next, is_full, is_none}
-use Rattle.rule_book.proofs.Lists.{none_is_some}
+use Rattle.rule_book.proofs.Lines.{none_is_some}
 use Rattle.rule_book.specs.Entries.{plain}
 use Rattle.rule_book.proofs.found.add_marks.Goals as goal
 

@@ -1,7 +1,7 @@
 use Rattle.std.proofs.Common.{length}
 use Rattle.rule_book.specs.Entries.{PlainEntry, plain}
-use Rattle.rule_book.specs.Reports.{EntryFits}
-use Rattle.rule_book.specs.Words.{Awaits}
+use Rattle.rule_book.specs.ReportReading.{EntryFits}
+use Rattle.rule_book.specs.working.LineWords.{Awaits}
 use Rattle.rule_book.proofs.found.add_marks.Given as goal
 
 -- if the words are the missing marks of a whole entry, the rest of them are those that it misses

@@ -1,6 +1,6 @@
 use Rattle.std.proofs.Common.{Some}
 use Rattle.rule_book.proofs.Entries.{octets_found}
-use Rattle.rule_book.proofs.Lists.{none_or_some, same_some}
+use Rattle.rule_book.proofs.Lines.{none_or_some, same_some}
 use Rattle.rule_book.proofs.found.ended_of.Goals as goal
 
 pub returns-in_err-number_of-clause-value : goal.returns-in_err-number_of-clause-value

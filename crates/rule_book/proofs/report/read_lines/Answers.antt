@@ -4,7 +4,7 @@ use Rattle.rule_book.proofs.Lines.{has_line}
 use Rattle.rule_book.proofs.Entries.{is_full}
 use Rattle.rule_book.proofs.Reports.{read_at, read_next}
 use Rattle.rule_book.specs.Entries.{plain}
-use Rattle.rule_book.specs.Reports.{IsEntryOf, LastFits, lines}
+use Rattle.rule_book.specs.ReportReading.{IsEntryOf, LastFits, lines}
 use Rattle.rule_book.specs.Text.{entry_text, first_line, last_text}
 use Rattle.rule_book.proofs.report.read_lines.Goals as goal
 

@@ -1,6 +1,6 @@
 use Rattle.std.proofs.Common.{◌≡◌, ◌+◌, ◌∷◌, length, map}
 use Rattle.rule_book.specs.Entries.{plain}
-use Rattle.rule_book.specs.Reports.{IsReadTo, lines}
+use Rattle.rule_book.specs.ReportReading.{IsReadTo, lines}
 use Rattle.rule_book.specs.Text.{first_line}
 use Rattle.rule_book.proofs.report.read_lines.Given as goal
 

@@ -1,6 +1,6 @@
 use Rattle.std.proofs.Common.{◌≡◌, ◌∷◌, rules}
 use Rattle.rule_book.proofs.Reports.{Tells, tells_fault, tells_ok, tells_text, text_first}
-use Rattle.rule_book.specs.Reports.{IsVersion, lines}
+use Rattle.rule_book.specs.ReportReading.{IsVersion, lines}
 use Rattle.rule_book.specs.Text.{first_line}
 use Rattle.rule_book.proofs.report.read_report.Goals as goal
 

@@ -3,12 +3,12 @@ use Rattle.rule_book.specs.Entries.{PlainEntry}
 use Rattle.run_audit.specs.declared.answer.Flaw.{Flaw}
 use Rattle.run_audit.specs.declared.answer.Flaw.TheVariants as flaws
 use Rattle.run_audit.specs.Answers.{flaw_status}
-use Rattle.run_audit.specs.Audits.{IsSound}
-use Rattle.run_audit.specs.Sound.{FaultlessAgrees, FaultlessMissesNothing, FaultlessReadsOneStream}
+use Rattle.run_audit.specs.CaptureFindings.{IsSound}
+use Rattle.run_audit.specs.SoundFiles.{FaultlessAgrees, FaultlessMissesNothing, FaultlessReadsOneStream}
 use Rattle.run_audit.specs.declared.answer.Answer.{Answer}
 use Rattle.run_audit.specs.declared.answer.Answer.TheVariants as answers
-use Rattle.run_audit.specs.Audited.{Seen, Says, Answered, FramesAgree, WhereRead, seen}
-use Rattle.run_audit.specs.Told.{Tells, TellsLine}
+use Rattle.run_audit.specs.AnswerMeanings.{Seen, Says, Answered, FramesAgree, WhereRead, seen}
+use Rattle.run_audit.specs.AnswerOutput.{Tells, TellsLine}
 use Rattle.run_audit.proofs.OneAnswer.{tells_exactly}
 use Rattle.run_audit.proofs.examine.audit.Goals as goal
 

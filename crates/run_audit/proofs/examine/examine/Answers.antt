@@ -3,10 +3,10 @@ use Rattle.std.proofs.lemmas.Result.{IfErr-weaker}
 use Rattle.rule_book.specs.Entries.{PlainEntry, plain}
 use Rattle.rule_book.specs.declared.entry.Entry.{Entry}
 use Rattle.run_audit.specs.declared.answer.Answer.{Answer}
-use Rattle.run_audit.specs.Audited.{Says, seen}
-use Rattle.run_audit.specs.Audits.{WhyUnsoundWhole}
-use Rattle.run_audit.specs.Reported.{IsFinished}
-use Rattle.run_audit.specs.Words.{asked}
+use Rattle.run_audit.specs.AnswerMeanings.{Says, seen}
+use Rattle.run_audit.specs.working.CaptureCauses.{WhyUnsoundWhole}
+use Rattle.run_audit.specs.ReportFindings.{IsFinished}
+use Rattle.run_audit.specs.AuditWords.{asked}
 use Rattle.run_audit.proofs.examine.examine.Goals as goal
 use Rattle.run_audit.specs.declared.answer.Answer.TheVariants as answers
 

@@ -1,8 +1,8 @@
 use Rattle.std.proofs.Common.{rules, map, sym, subst}
-use Rattle.pcap_file.specs.Reads.{shown}
+use Rattle.pcap_file.specs.RecordReading.{shown}
 use Rattle.rule_book.specs.Entries.{plain}
 use Rattle.run_audit.specs.declared.answer.Answer.{Answer}
-use Rattle.run_audit.specs.Audits.{WhyUnsound}
+use Rattle.run_audit.specs.working.CaptureCauses.{WhyUnsound}
 use Rattle.run_audit.proofs.Frames.{goes_on, unowned, faulty, unwritten, sound, few_frames, noted_by, faulty_by}
 use Rattle.run_audit.proofs.examine.judge_frames.Goals as goal
 

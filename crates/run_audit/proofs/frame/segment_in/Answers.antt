@@ -1,17 +1,17 @@
 use Rattle.std.proofs.Common.{◌≡◌, ℕ, ◌+◌, ◌-◌, ◌==◌, ◌&&◌, ◌≤◌, List, take, drop, Option, Some, None, Bool, true, false, refl, sym, ap, ap₂, ◌∙◌, arith, rules, Ok, Err, is_ok}
 use Rattle.std.proofs.lemmas.List.{drop-take}
-use Rattle.wire_base.specs.Reading.{value_or_fault}
+use Rattle.wire_base.specs.ParseResults.{value_or_fault}
 use Rattle.wire_base.specs.Ipv4 as ip
 use Rattle.wire_base.specs.Tcp as tcp
-use Rattle.ipv4_codec.specs.Header as header
+use Rattle.ipv4_codec.specs.HeaderFields as header
 use Rattle.ipv4_codec.specs.declared.header.Ipv4.{Ipv4}
 use Rattle.ipv4_codec.specs.declared.header.IpFault.{IpFault}
-use Rattle.tcp_codec.specs.Header as segment
+use Rattle.tcp_codec.specs.HeaderFields as segment
 use Rattle.tcp_codec.specs.declared.header.Tcp.{Tcp}
 use Rattle.tcp_codec.specs.declared.header.TcpFault.{TcpFault}
 use Rattle.tcp_codec.specs.declared.header.SumRule.TheVariants.{Skip}
-use Rattle.run_audit.specs.Faults.{is_segment}
-use Rattle.run_audit.specs.Read.{IsSegment}
+use Rattle.run_audit.specs.FrameFaults.{is_segment}
+use Rattle.run_audit.specs.working.OutwardFields.{IsSegment}
 use Rattle.run_audit.proofs.frame.segment_in.Goals as goal
 
 -- The fields that the codecs read from a packet that went outwards.

@@ -1,8 +1,8 @@
 use Rattle.std.proofs.Common.{◌≡◌, [], drop, map, flat_map}
 use Rattle.indexmap.specs.IndexMap.{keys}
 use Rattle.rule_book.specs.Entries.{plain}
-use Rattle.run_audit.specs.Eras.{AllStandFor}
-use Rattle.run_audit.specs.Named.{all_noted, named_in, eras_named}
+use Rattle.run_audit.specs.working.EraTable.{AllStandFor}
+use Rattle.run_audit.specs.NamedEras.{all_noted, named_in, eras_named}
 use Rattle.run_audit.proofs.named.eras_named.Given as goal
 
 abbrev pub invariant-loop-entry : goal.invariant-loop-entry

@@ -1,7 +1,7 @@
 use Rattle.std.proofs.Common.{◌≡◌, [], drop}
 use Rattle.indexmap.specs.IndexMap.{keys}
-use Rattle.run_audit.specs.Eras.{AllStandFor}
-use Rattle.run_audit.specs.Named.{all_noted, numbers_of}
+use Rattle.run_audit.specs.working.EraTable.{AllStandFor}
+use Rattle.run_audit.specs.NamedEras.{all_noted, numbers_of}
 use Rattle.run_audit.proofs.named.name_ended.Given as goal
 
 abbrev pub invariant-loop-one : goal.invariant-loop-one

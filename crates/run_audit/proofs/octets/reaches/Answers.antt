@@ -1,5 +1,5 @@
 use Rattle.std.proofs.Common.{◌||◌, None, Bool, sym, ap, ◌∙◌, arith}
-use Rattle.run_audit.specs.Kept.{some_stray}
+use Rattle.run_audit.specs.working.KeptOctets.{some_stray}
 use Rattle.run_audit.proofs.KeptOctets.{last_decides}
 use Rattle.run_audit.proofs.octets.reaches.Goals as goal
 

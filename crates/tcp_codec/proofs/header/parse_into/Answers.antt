@@ -1,8 +1,8 @@
 use Rattle.std.proofs.Common.{◌≡◌, ◌-◌, ◌*◌, ◌&&◌, not, true, false, take, drop, Ok, refl, ap, sym, ◌∙◌, arith}
 use Rattle.wire_base.specs.Tcp as tcp
-use Rattle.wire_base.specs.Sums.{sum_is_right}
+use Rattle.wire_base.specs.Checksums.{sum_is_right}
 use Rattle.wire_base.specs.Options.{are_well_formed}
-use Rattle.tcp_codec.specs.Header.{fields_of, is_judged}
+use Rattle.tcp_codec.specs.HeaderFields.{fields_of, is_judged}
 use Rattle.tcp_codec.proofs.Segments.{area_is, parsed-options}
 use Rattle.tcp_codec.proofs.header.parse_into.Goals as goal
 

@@ -1,6 +1,6 @@
 use Rattle.std.proofs.Common.{◌+◌}
 use Rattle.wire_base.specs.Numbers.{with_u16}
-use Rattle.wire_base.specs.Sums.{word_sum, checksum_for}
+use Rattle.wire_base.specs.Checksums.{word_sum, checksum_for}
 use Rattle.tcp_codec.proofs.Segments.{says_the_same}
 use Rattle.tcp_codec.proofs.laws.mended_say_the_same.Goals as goal
 

@@ -1,7 +1,7 @@
 use Rattle.std.proofs.Common.{◌≡◌, ◌+◌, ap, ap₂, ◌∙◌}
 use Rattle.wire_base.specs.Numbers.{with_u16}
-use Rattle.wire_base.specs.Sums.{word_sum, checksum_for, sum_is_right}
-use Rattle.tcp_codec.specs.Mending.{mended}
+use Rattle.wire_base.specs.Checksums.{word_sum, checksum_for, sum_is_right}
+use Rattle.tcp_codec.specs.MendedSegment.{mended}
 use Rattle.tcp_codec.proofs.Segments.{sum_is_right-mended, written_once}
 use Rattle.tcp_codec.proofs.write.mend.Goals as goal
 

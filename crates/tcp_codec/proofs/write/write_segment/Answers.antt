@@ -1,7 +1,7 @@
 use Rattle.std.proofs.Common.{◌≡◌, ◌+◌, ◌++◌, length, drop, ap, ◌∙◌, arith}
 use Rattle.wire_base.specs.Numbers.{with_u16}
-use Rattle.wire_base.specs.Sums.{checksum_for, pseudo_sum, word_sum}
-use Rattle.tcp_codec.specs.Write.{octets_with, pseudo_of, segment_of}
+use Rattle.wire_base.specs.Checksums.{checksum_for, pseudo_sum, word_sum}
+use Rattle.tcp_codec.specs.WrittenSegment.{octets_with, pseudo_of, segment_of}
 use Rattle.tcp_codec.proofs.write.write_segment.Goals as goal
 
 pub returns-clause-exact : goal.returns-clause-exact

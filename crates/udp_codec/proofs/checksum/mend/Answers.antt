@@ -1,5 +1,5 @@
 use Rattle.std.proofs.Common.{◌≡◌, rules}
-use Rattle.udp_codec.specs.Checksum.{mended}
+use Rattle.udp_codec.specs.WrittenChecksum.{mended}
 use Rattle.udp_codec.proofs.Mended.{sum_is_right-mended}
 use Rattle.udp_codec.proofs.checksum.mend.Goals as goal
 

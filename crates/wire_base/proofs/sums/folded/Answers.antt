@@ -1,7 +1,7 @@
 use Rattle.std.proofs.Common.{◌≡◌, ◌+◌, ◌/◌, ◌%◌, arith}
 use Rattle.std.specs.Int.Bits.{bit_and}
 use Rattle.std.proofs.lemmas.Nat.{and_mask}
-use Rattle.wire_base.proofs.Checksums.{CountsAs-carries}
+use Rattle.wire_base.proofs.Octets.{CountsAs-carries}
 use Rattle.wire_base.proofs.sums.folded.Goals as goal
 
 pub returns-clause-alike : goal.returns-clause-alike

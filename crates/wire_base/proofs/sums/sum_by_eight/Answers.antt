@@ -1,5 +1,5 @@
 use Rattle.std.proofs.Common.{◌*◌, ◌/◌, length, arith}
-use Rattle.wire_base.proofs.Checksums.{CountsAs-eight}
+use Rattle.wire_base.proofs.Octets.{CountsAs-eight}
 use Rattle.wire_base.proofs.sums.sum_by_eight.Goals as goal
 
 pub returns-else-bytes-lt8-clause-alike : goal.returns-else-bytes-lt8-clause-alike

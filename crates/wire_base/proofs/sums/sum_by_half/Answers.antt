@@ -1,5 +1,5 @@
 use Rattle.std.proofs.Common.{◌≡◌, ◌+◌, ◌*◌, ◌/◌, length, arith}
-use Rattle.wire_base.proofs.Checksums.{CountsAs-trans}
+use Rattle.wire_base.proofs.Octets.{CountsAs-trans}
 use Rattle.wire_base.proofs.sums.sum_by_half.Goals as goal
 
 pub returns-else-bytes-lt32-clause-alike : goal.returns-else-bytes-lt32-clause-alike

@@ -1,5 +1,5 @@
 use Rattle.std.proofs.Common.{◌≡◌, ◌+◌, ◌*◌, arith}
-use Rattle.wire_base.proofs.Checksums.{CountsAs-trans}
+use Rattle.wire_base.proofs.Octets.{CountsAs-trans}
 use Rattle.wire_base.proofs.sums.sum_of_blocks.Goals as goal
 
 pub loop-i-preserved : goal.loop-i-preserved

@@ -1,5 +1,5 @@
 use Rattle.std.proofs.Common.{◌*◌, ◌≤◌}
-use Rattle.wire_base.specs.Sums as sums
+use Rattle.wire_base.specs.working.SumCounting as sums
 use Rattle.wire_base.proofs.sums.sum_of_blocks.Given as goal
 
 abbrev pub invariant-loop-i : goal.invariant-loop-i

@@ -1,6 +1,6 @@
 use Rattle.std.proofs.Common.{◌≡◌, ◌+◌, ◌∙◌, arith}
-use Rattle.wire_base.specs.Sums.{eight_at}
-use Rattle.wire_base.proofs.Checksums.{CountsAs-all, CountsAs-last, CountsAs-trans, few_octets}
+use Rattle.wire_base.specs.working.SumCounting.{eight_at}
+use Rattle.wire_base.proofs.Octets.{CountsAs-all, CountsAs-last, CountsAs-trans, few_octets}
 use Rattle.wire_base.proofs.sums.sum_of_few.Goals as goal
 
 pub returns-else-is_empty-clause-alike : goal.returns-else-is_empty-clause-alike

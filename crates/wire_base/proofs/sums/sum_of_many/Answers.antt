@@ -1,5 +1,5 @@
 use Rattle.std.proofs.Common.{◌*◌, ◌/◌, length, arith}
-use Rattle.wire_base.proofs.Checksums.{CountsAs-last, CountsAs-none, CountsAs-trans}
+use Rattle.wire_base.proofs.Octets.{CountsAs-last, CountsAs-none, CountsAs-trans}
 use Rattle.wire_base.proofs.sums.sum_of_many.Goals as goal
 
 pub returns-then-at-bytes-clause-alike : goal.returns-then-at-bytes-clause-alike

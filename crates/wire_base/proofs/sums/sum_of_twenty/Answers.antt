@@ -1,4 +1,4 @@
-use Rattle.wire_base.proofs.Checksums.{CountsAs-twenty}
+use Rattle.wire_base.proofs.Octets.{CountsAs-twenty}
 use Rattle.wire_base.proofs.sums.sum_of_twenty.Goals as goal
 
 pub returns-clause-alike : goal.returns-clause-alike

@@ -1,4 +1,4 @@
-use Rattle.wire_base.proofs.Checksums.{CountsAs-half}
+use Rattle.wire_base.proofs.Octets.{CountsAs-half}
 use Rattle.wire_base.proofs.sums.with_half.Goals as goal
 
 pub returns-clause-alike : goal.returns-clause-alike

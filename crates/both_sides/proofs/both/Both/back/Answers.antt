@@ -1,13 +1,13 @@
 use Rattle.std.proofs.Common.{rules, ◌≡◌, ◌+◌, List, ◌∷◌, subst, arith}
 use Rattle.std.proofs.lemmas.Option.{slice_get_within}
 use Rattle.pcap_file.specs.Records.{Packet}
-use Rattle.pcap_file.specs.Reads.{shown}
+use Rattle.pcap_file.specs.RecordReading.{shown}
 use Rattle.rule_book.specs.Entries.{plain}
 use Rattle.norm_engine.specs.Items.{Item}
 use Rattle.norm_engine.specs.Trace.{item_of}
-use Rattle.norm_engine.specs.Clean.{HasOctets}
+use Rattle.norm_engine.specs.CleanRecords.{HasOctets}
 use Rattle.both_sides.specs.Traces.{mirrored, record_of}
-use Rattle.both_sides.specs.Both.{Joined, StandsFor, joined}
+use Rattle.both_sides.specs.TwoEngines.{Joined, StandsFor, joined}
 use Rattle.both_sides.proofs.TwoEngines.{Steps, back_pending, back_entry, back_frames, back_next, back_bounds}
 use Rattle.both_sides.proofs.both.Both.back.Goals as goal
 use Rattle.both_sides.proofs.both.Both.back.Goals.{After-step}

@@ -1,10 +1,10 @@
 use Rattle.std.proofs.Common.{◌≡◌, ◌<◌, ◌-◌, ◌^◌, List, ◌∷◌, length, sym, subst, arith}
-use Rattle.pcap_file.specs.Reads.{shown}
+use Rattle.pcap_file.specs.RecordReading.{shown}
 use Rattle.rule_book.specs.Entries.{plain}
 use Rattle.norm_engine.specs.Items.{Item}
 use Rattle.norm_engine.specs.Trace.{item_of}
 use Rattle.both_sides.specs.Traces.{records_for}
-use Rattle.both_sides.specs.Both.{Joined, StandsFor, joined}
+use Rattle.both_sides.specs.TwoEngines.{Joined, StandsFor, joined}
 use Rattle.both_sides.proofs.TwoEngines.{Steps, front_pending, front_given, front_bounds}
 use Rattle.both_sides.proofs.both.Both.front.Goals as goal
 

@@ -1,7 +1,8 @@
 use Rattle.std.proofs.Common.{◌≡◌, sym, subst, ap₂}
 use Rattle.std.proofs.Math.Logic.{∥∥₁_map}
-use Rattle.norm_engine.specs.Engine.{Engaged}
-use Rattle.both_sides.specs.Both.{Joined, StandsForSome, IsWithin, joined}
+use Rattle.norm_engine.specs.EngineState.{Engaged}
+use Rattle.both_sides.specs.TwoEngines.{Joined, joined}
+use Rattle.both_sides.specs.working.TwoEngines.{StandsForSome, IsWithin}
 use Rattle.both_sides.proofs.TwoEngines.{on_link, some_on_link}
 use Rattle.both_sides.proofs.both.Both.set_link.Goals as goal
 

@@ -1,7 +1,7 @@
 use Rattle.std.proofs.Common.{sym}
-use Rattle.norm_settings.specs.Settings.{plain_settings}
-use Rattle.both_sides.specs.Relays.{settings_of}
-use Rattle.both_sides.specs.Runs.{empty_run}
+use Rattle.norm_settings.specs.SettingValues.{plain_settings}
+use Rattle.both_sides.specs.RelayState.{settings_of}
+use Rattle.both_sides.specs.RunTraces.{empty_run}
 use Rattle.both_sides.proofs.Runs.{no_octets, ready_first}
 use Rattle.both_sides.proofs.relay.Relay.open.Goals as goal
 

@@ -1,9 +1,10 @@
 use Rattle.std.proofs.Common.{◌≡◌, sym, subst, ◌∙◌}
-use Rattle.pcap_file.specs.Reads.{shown}
+use Rattle.pcap_file.specs.RecordReading.{shown}
 use Rattle.both_sides.specs.declared.engines.Engines.{Engines}
 use Rattle.both_sides.specs.declared.engines.Engines.TheVariants.{One, Two}
-use Rattle.both_sides.specs.Relays.{IsKept, StandsForRun, link_of, settings_of}
-use Rattle.both_sides.specs.Runs.{RunHasOctets, RunTrace, next_run}
+use Rattle.both_sides.specs.working.RelayState.{IsKept}
+use Rattle.both_sides.specs.RelayState.{StandsForRun, link_of, settings_of}
+use Rattle.both_sides.specs.RunTraces.{RunHasOctets, RunTrace, next_run}
 use Rattle.both_sides.proofs.Runs.{can_read, kept_one, kept_two, octets_one, octets_two, stands_one, stands_two, written_along, written_one, written_two}
 use Rattle.both_sides.proofs.relay.Relay.relay.Goals as goal
 

@@ -2,8 +2,8 @@ use Rattle.std.proofs.Common.{◌≡◌, Ok, None, sym, subst}
 use Rattle.std.proofs.lemmas.Result.{err_from_is_err_and}
 use Rattle.capture_input.specs.declared.input.Input.{Input}
 use Rattle.capture_input.specs.declared.input.Input.TheVariants as kinds
-use Rattle.capture_input.specs.Reading.{Behind}
-use Rattle.capture_input.specs.Reads.{Reads}
+use Rattle.capture_input.specs.ReaderState.{Behind}
+use Rattle.capture_input.specs.RecordReading.{Reads}
 use Rattle.capture_input.proofs.Sides.{classic_none, sections_none}
 use Rattle.capture_input.proofs.Steps.{classic_fails, classic_reads, sections_reads, sections_fail}
 use Rattle.capture_input.proofs.input.Input.next.Goals as goal

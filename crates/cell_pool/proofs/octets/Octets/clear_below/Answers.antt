@@ -1,5 +1,5 @@
 use Rattle.std.proofs.Common.{ap, ◌∙◌}
-use Rattle.cell_pool.specs.Lists.{without_below}
+use Rattle.cell_pool.specs.ChainLists.{without_below}
 use Rattle.cell_pool.proofs.Bits.{octets_clear, none_left}
 use Rattle.cell_pool.proofs.octets.Octets.clear_below.Goals as goal
 

@@ -1,5 +1,5 @@
 use Rattle.std.proofs.Common.{ℕ, List, Option, length, sym, subst₂, arith}
-use Rattle.cell_pool.specs.Lists.{IsCovered, StandsFrom}
+use Rattle.cell_pool.specs.ChainLists.{IsCovered, StandsFrom}
 use Rattle.cell_pool.proofs.Runs.{copied}
 use Rattle.cell_pool.proofs.octets.Octets.copy_run.Goals as goal
 

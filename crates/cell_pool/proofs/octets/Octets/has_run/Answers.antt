@@ -1,7 +1,7 @@
 use Rattle.std.proofs.Common.{ℕ, List, Option, IsTrue, ◌↔◌, length, sym, subst₂, arith, refl}
 use Rattle.std.proofs.lemmas.Bool.Decides.{Decides-eqb}
 use Rattle.std.proofs.lemmas.Slice.Eq.{slice_eq-Decides}
-use Rattle.cell_pool.specs.Lists.{IsCovered, StandsFrom}
+use Rattle.cell_pool.specs.ChainLists.{IsCovered, StandsFrom}
 use Rattle.cell_pool.proofs.Runs.{compared}
 use Rattle.cell_pool.proofs.octets.Octets.has_run.Goals as goal
 

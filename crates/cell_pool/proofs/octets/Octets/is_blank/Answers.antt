@@ -1,5 +1,5 @@
 use Rattle.std.proofs.Common.{ℕ, List, Option, IsTrue, ◌↔◌, subst₂, arith, sym, ap, length, ◌∙◌}
-use Rattle.cell_pool.specs.Lists.{IsBlank}
+use Rattle.cell_pool.specs.ChainLists.{IsBlank}
 use Rattle.cell_pool.proofs.Bits.{length-octets_of}
 use Rattle.cell_pool.proofs.Runs.{blank_told}
 use Rattle.cell_pool.proofs.octets.Octets.is_blank.Goals as goal

@@ -1,5 +1,5 @@
 use Rattle.std.proofs.Common.{ℕ, List, Option, IsTrue, ◌↔◌, subst₂, arith}
-use Rattle.cell_pool.specs.Lists.{IsCovered}
+use Rattle.cell_pool.specs.ChainLists.{IsCovered}
 use Rattle.cell_pool.proofs.Runs.{covered_told}
 use Rattle.cell_pool.proofs.octets.Octets.is_covered.Goals as goal
 

@@ -1,7 +1,7 @@
 use Rattle.std.proofs.Common.{◌≡◌, ℕ, ◌+◌, ◌-◌, ◌≤◌, List, Option, length, refl, ap₂, ◌∙◌, arith}
 use borrow.Rule.Slice.PartMut.{put_mid}
-use Rattle.cell_pool.specs.Packed.{octets_of}
-use Rattle.cell_pool.specs.Lists.{with_run}
+use Rattle.cell_pool.specs.working.PackedOctets.{octets_of}
+use Rattle.cell_pool.specs.ChainLists.{with_run}
 use Rattle.cell_pool.proofs.Runs.{run_set, words}
 use Rattle.cell_pool.proofs.octets.Octets.set_run.Goals as goal
 

@@ -1,6 +1,6 @@
 use Rattle.std.proofs.Common.{◌↔◌, ℕ, List, Option, IsNone, IsTrue, ◌∙◌, ap, subst, arith, All}
 use Rattle.cell_pool.specs.declared.cells.Cell.{Cell}
-use Rattle.cell_pool.specs.Lists.{Held, without_below}
+use Rattle.cell_pool.specs.ChainLists.{Held, without_below}
 use Rattle.cell_pool.proofs.Pools.{overwrite}
 use Rattle.cell_pool.proofs.Chains.{shown, held_inside, cell_read, stands_is}
 use Rattle.cell_pool.proofs.pool.Pool.clear_below.Goals as goal

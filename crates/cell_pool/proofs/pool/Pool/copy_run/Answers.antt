@@ -1,6 +1,6 @@
 use Rattle.std.proofs.Common.{ℕ, List, Option, length, ◌∙◌, ap, sym, subst, arith}
 use Rattle.cell_pool.specs.declared.cells.Cell.{Cell}
-use Rattle.cell_pool.specs.Lists.{Held, IsCovered, StandsFrom}
+use Rattle.cell_pool.specs.ChainLists.{Held, IsCovered, StandsFrom}
 use Rattle.cell_pool.proofs.Chains.{shown, held_inside, cell_read, just_held, stands_is}
 use Rattle.cell_pool.proofs.pool.Pool.copy_run.Goals as goal
 

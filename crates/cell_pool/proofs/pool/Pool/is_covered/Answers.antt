@@ -1,6 +1,6 @@
 use Rattle.std.proofs.Common.{◌↔◌, ℕ, List, Option, IsTrue, ◌∙◌, ap, subst, arith}
 use Rattle.cell_pool.specs.declared.cells.Cell.{Cell}
-use Rattle.cell_pool.specs.Lists.{Held, IsCovered}
+use Rattle.cell_pool.specs.ChainLists.{Held, IsCovered}
 use Rattle.cell_pool.proofs.Chains.{shown, held_inside, cell_read, stands_is}
 use Rattle.cell_pool.proofs.pool.Pool.is_covered.Goals as goal
 

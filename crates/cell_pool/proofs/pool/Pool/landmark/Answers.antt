@@ -1,4 +1,4 @@
-use Rattle.cell_pool.specs.Links.{blank_cell}
+use Rattle.cell_pool.specs.CellLinks.{blank_cell}
 use Rattle.cell_pool.proofs.Owners.{read_stands}
 use Rattle.cell_pool.proofs.Chains.{shown}
 use Rattle.cell_pool.proofs.pool.Pool.landmark.Goals as goal

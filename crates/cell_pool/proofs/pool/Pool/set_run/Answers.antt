@@ -1,5 +1,5 @@
 use Rattle.std.proofs.Common.{arith}
-use Rattle.cell_pool.specs.Lists.{with_run}
+use Rattle.cell_pool.specs.ChainLists.{with_run}
 use Rattle.cell_pool.proofs.Pools.{overwrite}
 use Rattle.cell_pool.proofs.Chains.{shown, held_inside}
 use Rattle.cell_pool.proofs.pool.Pool.set_run.Goals as goal

@@ -1,5 +1,5 @@
 use Rattle.std.proofs.Common.{subst}
-use Rattle.cell_pool.specs.Lists.{HasPlaceFor, chain_at}
+use Rattle.cell_pool.specs.ChainLists.{HasPlaceFor, chain_at}
 use Rattle.cell_pool.proofs.FreeCells.{front_order, takes_at_front}
 use Rattle.cell_pool.proofs.pool.Pool.take_after.Goals as goal
 

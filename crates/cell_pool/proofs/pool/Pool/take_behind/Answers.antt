@@ -1,5 +1,5 @@
 use Rattle.std.proofs.Common.{◌-◌, refl, ap, arith}
-use Rattle.cell_pool.specs.Lists.{empty_cell}
+use Rattle.cell_pool.specs.ChainLists.{empty_cell}
 use Rattle.cell_pool.proofs.Pools.{ready_shows, update_sound, update_seen}
 use Rattle.cell_pool.proofs.FreeCells.{take_behind, take_rises}
 use Rattle.cell_pool.proofs.Chains.{shown, free_is, place_last}

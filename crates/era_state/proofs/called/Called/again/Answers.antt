@@ -1,6 +1,6 @@
 use Rattle.std.proofs.Common.{◌∙◌}
 use Rattle.era_state.specs.Quantities.{iss}
-use Rattle.era_state.specs.Read.{sent}
+use Rattle.era_state.specs.SegmentFields.{sent}
 use Rattle.era_state.proofs.Quantities.{or_kept, iss_push}
 use Rattle.era_state.proofs.Eras.{legal_syn, called_push}
 use Rattle.era_state.proofs.called.Called.again.Goals as goal

@@ -1,6 +1,6 @@
 use Rattle.std.proofs.Common.{refl, ◌∙◌, ap, Some, ◌||◌, []}
-use Rattle.era_state.specs.Marks.{edge_place}
-use Rattle.era_state.specs.Read.{sent}
+use Rattle.era_state.specs.SegmentMarks.{edge_place}
+use Rattle.era_state.specs.SegmentFields.{sent}
 use Rattle.era_state.proofs.warm.Warm.open.Goals as goal
 
 pub returns : goal.returns

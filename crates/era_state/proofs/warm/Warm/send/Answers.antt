@@ -1,7 +1,7 @@
 use Rattle.std.proofs.Common.{refl, ◌∙◌, ap, ◌||◌, ◌^◌, arith, [], ◌+◌, max}
 use Rattle.era_state.specs.Offsets.{number_in}
-use Rattle.era_state.specs.Marks.{edge_place}
-use Rattle.era_state.specs.Read.{sent}
+use Rattle.era_state.specs.SegmentMarks.{edge_place}
+use Rattle.era_state.specs.SegmentFields.{sent}
 use Rattle.era_state.proofs.Offsets.{number_small}
 use Rattle.era_state.proofs.warm.Warm.send.Goals as goal
 

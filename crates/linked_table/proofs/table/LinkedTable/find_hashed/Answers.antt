@@ -1,5 +1,5 @@
 use Rattle.std.proofs.Common.{◌≡◌, ◌+◌, ◌-◌, None, length, refl, sym, ap, ◌∙◌, arith}
-use Rattle.linked_table.specs.Sound.{bucket_number}
+use Rattle.linked_table.specs.working.SoundTable.{bucket_number}
 use Rattle.linked_table.proofs.Nodes.{pair_read, length-columns, first_read, chain_read}
 use Rattle.linked_table.proofs.Entries.{split_at, hub_read, slots_apart, keys_apart}
 use Rattle.linked_table.proofs.Walks.{begins, next_of, none_left, none_at_end, none_has, none_whichever, has_key, differs}

@@ -1,5 +1,5 @@
 use Rattle.std.proofs.Common.{◌-◌, ◌++◌}
-use Rattle.linked_table.specs.Nodes.{columns}
+use Rattle.linked_table.specs.NodeColumns.{columns}
 use Rattle.linked_table.proofs.Walks.{IsSearch}
 use Rattle.linked_table.proofs.table.LinkedTable.find_hashed.Given as goal
 

@@ -1,6 +1,6 @@
 use Rattle.std.proofs.Common.{◌≡◌, ◌+◌, length, refl, ap, ◌∙◌, arith}
-use Rattle.linked_table.specs.Rings.{link_at}
-use Rattle.linked_table.specs.Sound.{bucket_number}
+use Rattle.linked_table.specs.RingWalks.{link_at}
+use Rattle.linked_table.specs.working.SoundTable.{bucket_number}
 use Rattle.linked_table.proofs.Nodes.{below, pair_then, recent_read, set_pair, same_length, moved_length, moved_below, chains_count, length-columns}
 use Rattle.linked_table.proofs.Slots.{full_seen, not_full, spare, spare_inside, spare_before_inside, spare_after_inside, used_last_inside, chain_last_inside, fresh_seen, below_max, empty_read, insert_sound_read, insert_seen_read}
 use Rattle.linked_table.proofs.table.LinkedTable.insert_hashed.Goals as goal

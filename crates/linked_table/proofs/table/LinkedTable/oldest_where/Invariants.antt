@@ -1,5 +1,5 @@
 use Rattle.std.proofs.Common.{◌-◌}
-use Rattle.linked_table.specs.Nodes.{columns}
+use Rattle.linked_table.specs.NodeColumns.{columns}
 use Rattle.linked_table.proofs.Walks.{IsScan}
 use Rattle.linked_table.proofs.table.LinkedTable.oldest_where.Given as goal
 

@@ -1,5 +1,6 @@
 use Rattle.std.proofs.Common.{◌≡◌, refl, sym, ap, ◌∙◌, arith}
-use Rattle.linked_table.specs.Rings.{link_at, unlinked}
+use Rattle.linked_table.specs.RingWalks.{link_at}
+use Rattle.linked_table.specs.working.Rings.{unlinked}
 use Rattle.linked_table.proofs.Nodes.{below, pair_then, set_pair, same_length, moved_length, moved_chains, moved_below, chains_count}
 use Rattle.linked_table.proofs.Recency.{placed, placed_inside, placed_before_inside, placed_after_inside, freed_last_inside, chain_before_inside, chain_after_inside, remove_sound_read, remove_seen_read}
 use Rattle.linked_table.proofs.Entries.{slot_in_links, read_some, read_wherever}

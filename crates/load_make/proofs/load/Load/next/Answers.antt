@@ -1,8 +1,9 @@
 use Rattle.std.proofs.Common.{◌≡◌, ◌*◌, ◌/◌, ◌%◌, ◌<◌, Some, None, sym, ap, ◌∙◌, get_or, length, take, length-take, arith}
-use Rattle.pcap_file.specs.Reads.{shown}
-use Rattle.load_make.specs.Generated.{record_with}
-use Rattle.load_make.specs.Sequence.{action_of}
-use Rattle.load_make.specs.Flows.{flow_behind, turn_of}
+use Rattle.pcap_file.specs.RecordReading.{shown}
+use Rattle.load_make.specs.LoadRecords.{record_with}
+use Rattle.load_make.specs.NumberSequence.{action_of}
+use Rattle.load_make.specs.working.FlowBounds.{flow_behind}
+use Rattle.load_make.specs.Flows.{turn_of}
 use Rattle.load_make.specs.declared.flow.Flow.TheVariants.{New}
 use Rattle.load_make.proofs.Flows.{flow-within, in-step, generated-at, generated-end, next-record}
 use Rattle.load_make.proofs.load.Load.next.Goals as goal

@@ -3,13 +3,13 @@ use Rattle.std.specs.Coded.{le_prop}
 use Rattle.retain_store.specs.Maps.{chain_of}
 use Rattle.reassembly.specs.declared.id.DatagramId.{DatagramId}
 use Rattle.reassembly.specs.declared.progress.Progress.{Progress}
-use Rattle.reassembly.specs.Pieces.{fragment_of, is_whole}
+use Rattle.reassembly.specs.DatagramFragments.{fragment_of, is_whole}
 use Rattle.reassembly.specs.Calls.{Gathered, after, pieces_in}
-use Rattle.reassembly.specs.Rows.{answer_by}
-use Rattle.reassembly.specs.Standing.{HoldsFor}
+use Rattle.reassembly.specs.RuleRows.{answer_by}
+use Rattle.reassembly.specs.TableAndStore.{HoldsFor}
 use Rattle.std.proofs.Common.{length-take-le, length-take, ◌≡◌, ◌≤◌, ◌∷◌, length, take, drop, List, false, None, refl, sym, ap, ◌∙◌, arith}
 use Rattle.std.proofs.Math.Bool.{Bool-set}
-use Rattle.linked_table.specs.Table as table
+use Rattle.linked_table.specs.EntryTable as table
 use Rattle.reassembly.proofs.Entries.{found, progress_of}
 use Rattle.reassembly.proofs.Pieces.{filled_short}
 use Rattle.reassembly.proofs.Offers.{Taken, TellsWhole, taken, tells_whole, tells_none, whole_covers, whole_octets, done_says, held_says, done_holds, held_holds}

@@ -2,13 +2,13 @@ use Rattle.std.proofs.Common.{◌≡◌, [], ◌∷◌, ◌++◌, List, length, 
 use Rattle.std.specs.Coded.{le_prop}
 use Rattle.std.proofs.Math.Logic.{∥∥₁_map, ∥∥₁_elim}
 use Rattle.retain_store.specs.Maps.{chain_of, missing}
-use Rattle.linked_table.specs.Table.{HasNone, IsIn}
+use Rattle.linked_table.specs.EntryTable.{HasNone, IsIn}
 use Rattle.rule_book.specs.declared.rule.Rule.TheVariants.{FMany, FRoom}
-use Rattle.reassembly.specs.Pieces.{fragment_of, missing_of}
+use Rattle.reassembly.specs.DatagramFragments.{fragment_of, missing_of}
 use Rattle.reassembly.specs.Calls.{Gathered, pieces_in}
-use Rattle.reassembly.specs.Rows.{view_in, f_many}
-use Rattle.reassembly.specs.Standing.{HoldsFor}
-use Rattle.reassembly.specs.Assemblies.{IsAnswered}
+use Rattle.reassembly.specs.RuleRows.{view_in, f_many}
+use Rattle.reassembly.specs.TableAndStore.{HoldsFor}
+use Rattle.reassembly.specs.working.FragmentAnswers.{IsAnswered}
 use Rattle.reassembly.proofs.Rules.{many_drops, room_drops, none_drops, dropped_is, room_is, room_not}
 use Rattle.reassembly.proofs.Offers.{IsFirst, is_first, fresh_datagram, fresh_entry, is_many, not_full, touched_at, blocks_missing, blocks_missing_of, blank_holds, blank_answered, chain_free, inserted, entries_added, max_stays, in_added}
 use Rattle.reassembly.proofs.assembly.Assembly.begin.Goals as goal

@@ -4,8 +4,8 @@ use Rattle.linked_table.proofs.Entries.{split_at}
 use Rattle.reassembly.specs.declared.id.DatagramId.{DatagramId}
 use Rattle.reassembly.specs.declared.progress.Progress.{Progress}
 use Rattle.reassembly.specs.Calls.{of_others}
-use Rattle.reassembly.specs.Standing.{HoldsFor}
-use Rattle.linked_table.specs.Table as table
+use Rattle.reassembly.specs.TableAndStore.{HoldsFor}
+use Rattle.linked_table.specs.EntryTable as table
 use Rattle.retain_store.proofs.Blocks.{others_same}
 use Rattle.reassembly.proofs.Entries.{found, found_at, forget_holds}
 use Rattle.reassembly.proofs.assembly.Assembly.forget.Goals as goal

@@ -1,5 +1,5 @@
 use Rattle.std.proofs.Common.{sym, subst, ◌∙◌}
-use Rattle.reassembly.specs.Standing.{HoldsFor}
+use Rattle.reassembly.specs.TableAndStore.{HoldsFor}
 use Rattle.reassembly.proofs.Order.{first_goes, empty_stays}
 use Rattle.reassembly.proofs.assembly.Assembly.forget_first.Goals as goal
 

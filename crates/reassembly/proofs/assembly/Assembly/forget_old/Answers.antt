@@ -1,9 +1,10 @@
 use Rattle.std.proofs.Common.{◌≡◌, ◌≤◌, ◌+◌, true, false, List, take, drop, length, ap, sym, subst, ◌∙◌, arith}
 use Rattle.std.specs.List.{AllByRecursion}
-use Rattle.norm_settings.specs.Settings.{PlainSettings}
+use Rattle.norm_settings.specs.SettingValues.{PlainSettings}
 use Rattle.reassembly.specs.Calls.{Call, Gathered, gathered, latest, is_old}
-use Rattle.reassembly.specs.Assemblies.{KeepsFor, begins_old}
-use Rattle.reassembly.specs.Standing.{HoldsFor}
+use Rattle.reassembly.specs.AssemblyState.{KeepsFor}
+use Rattle.reassembly.specs.working.FragmentAnswers.{begins_old}
+use Rattle.reassembly.specs.TableAndStore.{HoldsFor}
 use Rattle.reassembly.proofs.Entries.{lengths}
 use Rattle.reassembly.proofs.Order.{drop_more, old_more, none_past, Expired, expired}
 use Rattle.reassembly.proofs.assembly.Assembly.forget_old.Goals as goal

@@ -1,9 +1,9 @@
 use Rattle.std.proofs.Common.{◌≡◌, true, List, take, drop}
 use Rattle.std.specs.List.{AllByRecursion}
-use Rattle.norm_settings.specs.Settings.{PlainSettings}
+use Rattle.norm_settings.specs.SettingValues.{PlainSettings}
 use Rattle.reassembly.specs.Calls.{Gathered, is_old}
-use Rattle.reassembly.specs.Standing.{HoldsFor}
-use Rattle.reassembly.specs.Assemblies.{IsFor}
+use Rattle.reassembly.specs.TableAndStore.{HoldsFor}
+use Rattle.reassembly.specs.AssemblyState.{IsFor}
 use Rattle.reassembly.proofs.assembly.Assembly.forget_old.Given as goal
 
 abbrev pub invariant-loop-index : goal.invariant-loop-index

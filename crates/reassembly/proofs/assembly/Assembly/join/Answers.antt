@@ -1,11 +1,11 @@
 use Rattle.std.proofs.Common.{◌≡◌, List, cond, length, true, false, sym, ap, ap₂, subst, ◌∙◌, nat_lt}
 use Rattle.retain_store.specs.Maps.{chain_of, missing}
 use Rattle.rule_book.specs.declared.rule.Rule.TheVariants.{FRoom}
-use Rattle.reassembly.specs.Pieces.{fragment_of, missing_of, octet_of}
+use Rattle.reassembly.specs.DatagramFragments.{fragment_of, missing_of, octet_of}
 use Rattle.reassembly.specs.Calls.{Gathered, pieces_in, of_others}
-use Rattle.reassembly.specs.Rows.{view_in, first_row, odd_rows}
-use Rattle.reassembly.specs.Standing.{HoldsFor, Keeps}
-use Rattle.reassembly.specs.Assemblies.{IsAnswered}
+use Rattle.reassembly.specs.RuleRows.{view_in, first_row, odd_rows}
+use Rattle.reassembly.specs.TableAndStore.{HoldsFor, Keeps}
+use Rattle.reassembly.specs.working.FragmentAnswers.{IsAnswered}
 use Rattle.retain_store.proofs.Room.{missing_are, no_room, some_room}
 use Rattle.reassembly.proofs.Entries.{found, progress_of}
 use Rattle.reassembly.proofs.Rules.{odd_drops, room_drops, none_drops, dropped_is, not_many}

@@ -1,10 +1,10 @@
 use Rattle.std.proofs.Common.{◌≡◌, cond, length, sym, ap₂, ap, subst, ◌∙◌, nat_le}
-use Rattle.linked_table.specs.Table.{Wherever}
-use Rattle.reassembly.specs.Pieces.{fragment_of}
+use Rattle.linked_table.specs.EntryTable.{Wherever}
+use Rattle.reassembly.specs.DatagramFragments.{fragment_of}
 use Rattle.reassembly.specs.Calls.{gathered, of_others}
-use Rattle.reassembly.specs.Rows.{view_in, view_of, answer_at}
-use Rattle.reassembly.specs.Standing.{HoldsFor}
-use Rattle.reassembly.specs.Assemblies.{IsAnswered}
+use Rattle.reassembly.specs.RuleRows.{view_in, view_of, answer_at}
+use Rattle.reassembly.specs.TableAndStore.{HoldsFor}
+use Rattle.reassembly.specs.working.FragmentAnswers.{IsAnswered}
 use Rattle.reassembly.proofs.Entries.{found, free_is}
 use Rattle.reassembly.proofs.Rules.{own_drops, dropped_is}
 use Rattle.reassembly.proofs.Order.{some_gathered, some_found}

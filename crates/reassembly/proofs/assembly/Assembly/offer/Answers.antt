@@ -1,7 +1,7 @@
 use Rattle.std.proofs.Common.{◌∷◌, refl, arith}
-use Rattle.reassembly.specs.Pieces.{fragment_of}
+use Rattle.reassembly.specs.DatagramFragments.{fragment_of}
 use Rattle.reassembly.specs.Calls.{gathered, latest}
-use Rattle.reassembly.specs.Rows.{call_of, answer_at, view_of}
+use Rattle.reassembly.specs.RuleRows.{call_of, answer_at, view_of}
 use Rattle.reassembly.proofs.Order.{order_after}
 use Rattle.reassembly.proofs.Offers.{joins, later}
 use Rattle.reassembly.proofs.assembly.Assembly.offer.Goals as goal

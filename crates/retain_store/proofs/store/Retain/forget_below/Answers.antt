@@ -1,8 +1,8 @@
 use Rattle.std.proofs.Common.{◌∙◌, length, sym, ap, subst}
 use Rattle.std.proofs.lemmas.List.{length-map}
-use Rattle.cell_pool.specs.Lists.{chain_at}
+use Rattle.cell_pool.specs.ChainLists.{chain_at}
 use Rattle.retain_store.specs.Maps.{IsMap}
-use Rattle.retain_store.specs.Seats.{block_of}
+use Rattle.retain_store.specs.PoolBlocks.{block_of}
 use Rattle.retain_store.proofs.Counts.{held_counted}
 use Rattle.retain_store.proofs.Blocks.{change_shown, kept_map, shown_after}
 use Rattle.retain_store.proofs.store.Retain.forget_below.Goals as goal

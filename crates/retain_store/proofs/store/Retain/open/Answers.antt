@@ -1,5 +1,5 @@
 use Rattle.std.proofs.Common.{ap, ◌∙◌}
-use Rattle.retain_store.specs.Seats.{store_of}
+use Rattle.retain_store.specs.PoolBlocks.{store_of}
 use Rattle.retain_store.proofs.Blocks.{none_shown}
 use Rattle.retain_store.proofs.store.Retain.open.Goals as goal
 

@@ -1,8 +1,9 @@
 use Rattle.std.proofs.Common.{◌∙◌, length, sym, ap, subst, arith}
 use Rattle.std.proofs.lemmas.List.{length-map}
-use Rattle.cell_pool.specs.Lists.{chain_at}
+use Rattle.cell_pool.specs.ChainLists.{chain_at}
 use Rattle.retain_store.specs.Maps.{Store, IsMap, fresh, missing}
-use Rattle.retain_store.specs.Seats.{block_of, blocks_in}
+use Rattle.retain_store.specs.PoolBlocks.{block_of}
+use Rattle.retain_store.specs.working.BlockCells.{blocks_in}
 use Rattle.retain_store.proofs.Parts.{fresh_most}
 use Rattle.retain_store.proofs.Counts.{held_counted}
 use Rattle.retain_store.proofs.Blocks.{chain_shown, change_shown, kept_map, shown_after}

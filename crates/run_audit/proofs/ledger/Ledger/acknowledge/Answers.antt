@@ -1,6 +1,6 @@
 use Rattle.std.proofs.Common.{sym, ◌∙◌, subst}
 use Rattle.run_audit.specs.declared.ledger.Ledger.{Ledger}
-use Rattle.run_audit.specs.Ledgers.{StandsFor, counted}
+use Rattle.run_audit.specs.working.EraLedgers.{StandsFor, counted}
 use Rattle.run_audit.proofs.Ledgers.{unacknowledging, reached_on, reset, opened}
 use Rattle.run_audit.proofs.ledger.Ledger.acknowledge.Goals as goal
 

@@ -1,7 +1,7 @@
 use Rattle.std.proofs.Common.{◌≡◌, ◌+◌, ◌%◌, ◌^◌, ◌&&◌, ◌==◌, not, sym, ◌∙◌, ap, ap₂}
 use Rattle.wire_base.specs.Tcp as tcp
 use Rattle.run_audit.specs.declared.ledger.Ledger.{Ledger}
-use Rattle.run_audit.specs.Ledgers.{settled}
+use Rattle.run_audit.specs.working.EraLedgers.{settled}
 use Rattle.run_audit.proofs.InboundSegments.{base_with, base_is_missing, syn_is_other, whole_result, silent_verdict}
 use Rattle.run_audit.proofs.ledger.Ledger.judge.Goals as goal
 

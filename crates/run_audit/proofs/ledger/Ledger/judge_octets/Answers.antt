@@ -2,8 +2,8 @@ use Rattle.std.proofs.Common.{◌≡◌, length, sym, ◌∙◌, ap, ap₂}
 use Rattle.std.proofs.lemmas.Bool.{not-false, not-true, not_from_false, not_from_true}
 use Rattle.wire_base.specs.Tcp as tcp
 use Rattle.run_audit.specs.declared.ledger.Ledger.{Ledger}
-use Rattle.run_audit.specs.Kept.{kept_at}
-use Rattle.run_audit.specs.Ledgers.{may_end, end_with, top_with}
+use Rattle.run_audit.specs.working.KeptOctets.{kept_at}
+use Rattle.run_audit.specs.working.EraLedgers.{may_end, end_with, top_with}
 use Rattle.run_audit.proofs.InboundSegments.{Came, octets_judged, fin_judged, octet_strays, fin_is_other, nothing_strays, read_on}
 use Rattle.run_audit.proofs.ledger.Ledger.judge_octets.Goals as goal
 

@@ -1,6 +1,6 @@
 use Rattle.std.proofs.Common.{◌+◌, ◌&&◌, ◌||◌, not, Bool, None, drop, sym, ap, ◌∙◌}
 use Rattle.std.proofs.lemmas.Bool.{and_parts, not-true}
-use Rattle.run_audit.specs.Kept.{octet_in, some_stray}
+use Rattle.run_audit.specs.working.KeptOctets.{octet_in, some_stray}
 use Rattle.run_audit.proofs.KeptOctets.{put_strays, put_kept}
 use Rattle.run_audit.proofs.octets.Block.put_run.Goals as goal
 

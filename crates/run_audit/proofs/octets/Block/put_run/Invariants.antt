@@ -1,5 +1,5 @@
 use Rattle.std.proofs.Common.{◌≡◌, ℕ, ◌+◌, ◌||◌, not, true, None, drop}
-use Rattle.run_audit.specs.Kept.{kept_with, octet_in, some_stray}
+use Rattle.run_audit.specs.working.KeptOctets.{kept_with, octet_in, some_stray}
 use Rattle.run_audit.proofs.octets.Block.put_run.Given as goal
 
 abbrev pub invariant-loop-count : goal.invariant-loop-count

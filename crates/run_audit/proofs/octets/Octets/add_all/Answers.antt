@@ -1,6 +1,6 @@
 use Rattle.std.proofs.Common.{◌++◌, None, not, arith, sym, ap, ap₂, ◌∙◌, take-append-drop}
 use Rattle.std.proofs.lemmas.Bool.{not-true, not-false}
-use Rattle.run_audit.specs.Kept.{kept_at, kept_with, some_stray}
+use Rattle.run_audit.specs.working.KeptOctets.{kept_at, kept_with, some_stray}
 use Rattle.run_audit.proofs.KeptOctets.{kept_on, stray_on, stray_front}
 use Rattle.run_audit.proofs.octets.Octets.add_all.Goals as goal
 

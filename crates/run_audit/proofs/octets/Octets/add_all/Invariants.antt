@@ -1,5 +1,5 @@
 use Rattle.std.proofs.Common.{◌≡◌, ℕ, ◌+◌, None, length}
-use Rattle.run_audit.specs.Kept.{kept_at, kept_with, some_stray}
+use Rattle.run_audit.specs.working.KeptOctets.{kept_at, kept_with, some_stray}
 use Rattle.run_audit.proofs.octets.Octets.add_all.Given as goal
 
 abbrev pub invariant-loop-rest : goal.invariant-loop-rest

@@ -1,7 +1,7 @@
 use Rattle.std.proofs.Common.{◌≡◌, ℕ, ◌/◌, ◌%◌, Some, None, false, rules, tests, not, sym, ap, ◌∙◌, arith, is_eq, nat_cmp}
 use Rattle.std.specs.Box.{with_value}
 use Rattle.std.proofs.lemmas.Grind.{common_steps}
-use Rattle.run_audit.specs.Kept.{block_at, kept_with, octet_in, octet_in_some, some_stray}
+use Rattle.run_audit.specs.working.KeptOctets.{block_at, kept_with, octet_in, octet_in_some, some_stray}
 use Rattle.run_audit.specs.declared.octets.Block.{Block}
 use Rattle.run_audit.proofs.KeptOctets.{IsPut, run_kept, run_strays}
 use Rattle.run_audit.proofs.octets.Octets.add_run.Goals as goal

@@ -1,8 +1,8 @@
 use Rattle.std.proofs.Common.{◌≡◌, ℕ, suc, ◌+◌, ◌-◌, ◌<◌, ◌≤◌, List, [], ◌∷◌, ◌++◌, map, length, get_or, sym, ◌∙◌, ap, arith, replicate}
 use Rattle.rule_book.specs.Entries.{plain}
 use Rattle.rule_book.specs.declared.entry.Entry.{Entry}
-use Rattle.run_audit.specs.Frames.{owners}
-use Rattle.run_audit.specs.Owned.{left_from}
+use Rattle.run_audit.specs.OwnedFrames.{owners}
+use Rattle.run_audit.specs.working.OwnedEntries.{left_from}
 use Rattle.run_audit.proofs.owners.Owners.next.Goals as goal
 
 given_on : (entries : List Entry) (given : ℕ) (item : Entry) → 1 ≤ length entries → item ≡ get_or entries 0 item → given < item.packets → left_from (map plain entries) given ≡ plain item ∷ left_from (map plain entries) (given + 1)

@@ -1,5 +1,5 @@
 use Rattle.std.proofs.Common.{◌≡◌, length}
-use Rattle.run_audit.specs.Owned.{left_of}
+use Rattle.run_audit.specs.working.OwnedEntries.{left_of}
 use Rattle.run_audit.proofs.owners.Owners.next.Given as goal
 
 abbrev pub invariant-entries : goal.invariant-entries

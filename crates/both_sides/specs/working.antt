@@ -1,0 +1,5 @@
+pub mod TwoEngines
+pub mod FrameReports
+pub mod RelayState
+pub mod RecordEffects
+pub mod FrameAnswers

@@ -1,0 +1,2 @@
+pub mod SoundLinks
+pub mod PackedOctets

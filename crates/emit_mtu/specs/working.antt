@@ -1,0 +1,2 @@
+pub mod PartSizes
+pub mod CutterState

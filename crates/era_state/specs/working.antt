@@ -1,0 +1,4 @@
+pub mod FirstSyns
+pub mod StoredOffsets
+pub mod ScaleChanges
+pub mod WarmChanges

@@ -1,0 +1,5 @@
+pub mod Rings
+pub mod NodeLinks
+pub mod SoundTable
+pub mod ListingRings
+pub mod FoldedNumbers

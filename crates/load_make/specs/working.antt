@@ -1,0 +1,3 @@
+pub mod FlowBounds
+pub mod RecordPayloads
+pub mod FlowsBefore

@@ -1,0 +1,4 @@
+pub mod KeyHashes
+pub mod CompleteDatagram
+pub mod JoinedFragments
+pub mod FragmentAnswers

@@ -1,0 +1,4 @@
+pub mod StreamSteps
+pub mod StreamMarks
+pub mod FamilyMarks
+pub mod FieldTests

@@ -1,0 +1,2 @@
+pub mod BlockCells
+pub mod PoolChanges

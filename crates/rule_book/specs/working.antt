@@ -1,0 +1,4 @@
+pub mod LineBuffers
+pub mod ReportLines
+pub mod LineFronts
+pub mod LineWords

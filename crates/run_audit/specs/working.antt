@@ -1,0 +1,9 @@
+pub mod CaptureAnswers
+pub mod StoredOffsets
+pub mod KeptOctets
+pub mod EraLedgers
+pub mod EraTable
+pub mod OutwardFields
+pub mod OwnedEntries
+pub mod CaptureCauses
+pub mod ReportCauses
