@@ -42,14 +42,17 @@ def broken_of_whole(files):
     records = [value for value in values if value["event"] == "record"]
     eras = [value for value in values if value["event"] == "era"]
     notes = [value for value in values if value["event"] == "note"]
-    if [value["event"] for value in values] != ["record"] * len(records) + ["summary"] + ["era"] * len(eras) + ["note"] * len(notes):
+    if ([value["event"] for value in values]
+            != ["record"] * len(records) + ["summary"] + ["era"] * len(eras) + ["note"] * len(notes)):
         return "objects in another order"
     lines = summary.splitlines()
     text, said = lines[:len(lines) - len(notes)], lines[len(lines) - len(notes):]
-    return text_law(records, every[1]) or summary_law(records, values[len(records)], eras, text, files) or table_law(records, tables[0][1]) \
-        or table_law(eras, tables[1][1]) or choice_law(records, files) or frames_law(records, eras, files) \
-        or notes_law(records, notes, said, files) or evidence_law(records, evidence, files) or end_law(text[:-len(eras) or None], said, files) \
-        or hosts_law(records, values[len(records)])
+    return (text_law(records, every[1]) or summary_law(records, values[len(records)], eras, text, files)
+            or table_law(records, tables[0][1]) or table_law(eras, tables[1][1])
+            or choice_law(records, files) or frames_law(records, eras, files)
+            or notes_law(records, notes, said, files) or evidence_law(records, evidence, files)
+            or end_law(text[:-len(eras) or None], said, files)
+            or hosts_law(records, values[len(records)]))
 
 
 def stop_law(status, summary, as_json, texts):
@@ -75,8 +78,8 @@ def marks(value):
 
 def more_marks(value):
     words = ["%s %d" % (word, value[name])
-             for word, name in [("window", "window"), ("type", "icmp_type"), ("code", "icmp_code"), ("id", "id"),
-                                                              ("offset", "offset")]
+             for word, name in [("window", "window"), ("type", "icmp_type"), ("code", "icmp_code"),
+                                ("id", "id"), ("offset", "offset")]
              if value[name] is not None]
     return words + ["more"] * (value["more"] is True)
 
@@ -115,9 +118,9 @@ def record_line(value):
     number = {"first": "%d", "second": "%%d/%d" % value["number"]}[value["by"]] % value["record"]
     words = [number, value["time"], value["side"] or "-", ends(value, ("src", "dest"), " > "), marks(value),
              *more_marks(value)]
-    words += ["len %d" % value["length"], value["verdict"]] + ["%s %d" % (word, value[name]) for word,
-                                                               name in (("era", "era"), ("begins era", "begun"))
-                                                               if value[name] is not None]
+    words += ["len %d" % value["length"], value["verdict"]]
+    words += ["%s %d" % (word, value[name]) for word, name in (("era", "era"), ("begins era", "begun"))
+              if value[name] is not None]
     words += ["ends era %d %s" % (end["era"], end["reason"])
               + ("" if end["octets"] is None else " octets %d" % end["octets"])
               for end in value["ended"]]
@@ -239,11 +242,9 @@ def counted(value, name):
 
 def summary_text(value):
     """The lines of the object."""
-    texts = ["records %d" % value["records"]] + [line
-                                                 for name in ("in_lines", "out_lines", "neither_lines",
-                                                              "second_in_lines",
-                                                                                                    "second_out_lines", "second_neither_lines")
-                                                 for line in counted(value, name)]
+    sides = ("in_lines", "out_lines", "neither_lines", "second_in_lines", "second_out_lines",
+             "second_neither_lines")
+    texts = ["records %d" % value["records"]] + [line for name in sides for line in counted(value, name)]
     texts += ["frames %d" % value["frames"]] + (["unfinished %d" % value["unfinished"]] if value["unfinished"] else [])
     texts += ["ethertype %s %d" % (one["type"], one["count"]) for one in value["types"]]
     texts += ["protocol %d %d" % (one["protocol"], one["count"]) for one in value["protocols"]]
@@ -290,8 +291,8 @@ def summary_law(records, value, eras, text, files):
                            + ["opened"] + ["%s %d" % (way, ways.count(way)) for way in ("in", "out", "mid")]))
     if text != wanted + [era_line(era) for era in eras] or summary_text(value) != wanted:
         return "the summary is not that of the report"
-    if [[one[name] for name in ("in", "out", "neither")] for one in value["rule_counts"]] != [[named.count((rule, side)) for side in ("in", "out", "-")]
-                                                                                        for rule in rules]:
+    counts = [[named.count((rule, side)) for side in ("in", "out", "-")] for rule in rules]
+    if [[one[name] for name in ("in", "out", "neither")] for one in value["rule_counts"]] != counts:
         return "the rules have other sides than in the report"
     numbers = [("/%d" if one["by"] == "second" else "%d") % one["number"] for one in records]
     if numbers != [line.split(" ")[0] for line in lines]:
@@ -305,7 +306,8 @@ def summary_law(records, value, eras, text, files):
 
 # The notes are those of --notes, and what one counts by a rule is not more than lines have
 
-EARLY = set("L_SNAP L_SHORT L_TYPE I_SHORT I_VERSION I_HLEN I_LEN I_SUM I_SRC I_DST I_SIDE I_OPT_BAD I_ROUTE P_PROTO".split())
+EARLY = set("L_SNAP L_SHORT L_TYPE I_SHORT I_VERSION I_HLEN I_LEN I_SUM I_SRC I_DST I_SIDE "
+            "I_OPT_BAD I_ROUTE P_PROTO".split())
 
 ALONE = {"tagged": "L_TYPE", "ipv6": "L_TYPE", "tunnels": "P_PROTO", "foreign": "I_SIDE", "cut": "L_SNAP"}
 
@@ -331,7 +333,8 @@ def notes_law(records, notes, said, files):
     found = [value["note"] for value in notes]
     firsts = [one for one in records if one["by"] == "first"]
     status = 10 if any(value["note"] not in HARMLESS or 2 * total_of(value) >= len(firsts) for value in notes) else 0
-    if view(["--notes"] + NAMES, files) != (status, "".join(line + "\n" for line in said)) or said != [note_text(value) for value in notes]:
+    if (view(["--notes"] + NAMES, files) != (status, "".join(line + "\n" for line in said))
+            or said != [note_text(value) for value in notes]):
         return "the notes alone, as text or as JSON are others"
     as_json = view(["--notes", "--json"] + NAMES, files)
     if (as_json[0], [json.loads(line) for line in as_json[1].splitlines()]) != (status, notes):
@@ -399,8 +402,9 @@ def changed_payload(payload, value):
     octets = bytearray(payload)
     for run in value["replaced"]:
         before, after = octets_had(run["from_octets"]), octets_had(run["to_octets"])
-        assert octets[run["at"]:run["at"] + len(before)] == before and len(before) == len(after), "other octets were replaced"
-        octets[run["at"]:run["at"] + len(before)] = after
+        place = slice(run["at"], run["at"] + len(before))
+        assert octets[place] == before and len(before) == len(after), "other octets were replaced"
+        octets[place] = after
     return bytes(octets[len(front):len(octets) - len(end)]) + octets_had(value["longer"])
 
 
@@ -491,8 +495,8 @@ def frames_law(records, eras, files):
         octets = source[value["record"] - 1].octets
         if rebuilt(head.link, octets, []) != octets:
             return "the fields of record %d are not its octets" % value["record"]
-        if value["given"] is not None or value["frames_out"] != (list(range(taken + 1, taken + value["frames"] + 1))
-                                                                 or None):
+        numbers = list(range(taken + 1, taken + value["frames"] + 1)) or None
+        if value["given"] is not None or value["frames_out"] != numbers:
             return "record %d: other numbers in OUT" % value["record"]
         taken += value["frames"]
         for number in range(1, value["frames"] + 1):

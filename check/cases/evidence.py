@@ -106,8 +106,9 @@ def no_run(name, records, frames, lines, shown):
     """Of lines that no run has, those of T_CLASH."""
     row("evidence, and no run: " + name, b"", "--evidence --rule T_CLASH", [shown] + found(1), status=11,
         files=[capture_of(records), capture_of(frames),
-               ("norm 2\n%send %d %d\n" % ("".join("%d in %s @1\n" % (number, line) for number, line in enumerate(lines, 1)),
-                                          len(records), len(frames))).encode()])
+               ("norm 2\n%send %d %d\n"
+                % ("".join("%d in %s @1\n" % (number, line) for number, line in enumerate(lines, 1)),
+                   len(records), len(frames))).encode()])
 
 
 no_run("a second run that nobody sent before", [data(1000, "ab"), data(1000, "XbXd")],
@@ -245,8 +246,8 @@ contradicts("a datagram that was forgotten by its end",
 
 WHOLE = fragments(inward(UDP, udp(OUTSIDE, INSIDE, 40000, 53, b"goodgood", check=0)), 8)
 
-row("evidence: a datagram that was whole", capture_of(WHOLE + [part(8, "EVILgood", protocol=UDP),
-                                                              part(8, "goodgood", protocol=UDP)]),
+row("evidence: a datagram that was whole",
+    capture_of(WHOLE + [part(8, "EVILgood", protocol=UDP), part(8, "goodgood", protocol=UDP)]),
     "--evidence --only drop",
     ["4 EPOCH in " + LATER + 'udp id 1 offset 8 more len 8 drop F_CLASH: frames 0; '
      'fragment at 8 "good" > "EVIL" first 3'] + found(1), status=11)

@@ -147,7 +147,8 @@ for name, packet in [("an octet less", version_6(TCP, 0, 24)), ("IPv6 to a group
     no_notes(name, beside(tagged(*PLAIN_6, packet)))
 
 FRONTS_6 = [("8100", "0007 86dd"), ("88a8", "0007 86dd"), ("8100", "0007 8100 0008 86dd"),
-            ("88a8", "0007 8100 0008 86dd"), ("8100", "0007 88a8 0008 86dd"), ("8864", "11 00 0001 001e 0057"), ("8847", LAST),
+            ("88a8", "0007 8100 0008 86dd"), ("8100", "0007 88a8 0008 86dd"),
+            ("8864", "11 00 0001 001e 0057"), ("8847", LAST),
             ("8847", LABEL + LAST), ("8847", 3 * LABEL + LAST)]
 
 for kind, front in FRONTS_6:

@@ -5,7 +5,8 @@ import os
 from types import SimpleNamespace
 
 from model.formats import ICMP, TCP, UDP
-from model.packets import (INSIDE, OUTSIDE, address, capture_of, head, icmp, icmp_error, inward, ipv4, opening, outward, record, segment,
+from model.packets import (INSIDE, OUTSIDE, address, capture_of, head, icmp, icmp_error, inward,
+                           ipv4, opening, outward, record, segment,
                                 udp)
 
 TOP = os.path.dirname(os.path.dirname(os.path.dirname(os.path.abspath(__file__))))
@@ -119,7 +120,8 @@ EXAMPLES = {
 
 def rows_of(page):
     """By rule: the last cell of its row in the tables of the page."""
-    rows = [[cell.strip() for cell in line.strip().strip("|").split("|")] for line in page.splitlines() if line.startswith("|")]
+    rows = [[cell.strip() for cell in line.strip().strip("|").split("|")]
+            for line in page.splitlines() if line.startswith("|")]
     return {row[1]: row[-1] for row in rows if len(row) > 3 and row[0].isdigit()}
 
 

@@ -15,6 +15,9 @@ import threading
 
 ECHO, FETCH, STORE, ASK = 7001, 7002, 7003, 5353
 
+# Seconds that an answer may take on a machine that does other work.
+PATIENCE = 30
+
 
 def family(address):
     return socket.AF_INET6 if ":" in address else socket.AF_INET
@@ -74,7 +77,7 @@ def talk_to(answer, peer):
 # The client
 
 def call(address, port):
-    peer = socket.create_connection((address, port), timeout=20)
+    peer = socket.create_connection((address, port), timeout=PATIENCE)
     peer.setsockopt(socket.IPPROTO_TCP, socket.TCP_NODELAY, 1)
     return peer
 
@@ -115,7 +118,7 @@ def store_all(address, octets):
 
 def ask(address, octets):
     with socket.socket(family(address), socket.SOCK_DGRAM) as peer:
-        peer.settimeout(5)
+        peer.settimeout(PATIENCE)
         for number in range(octets or 30):
             peer.sendto(b"question %d" % number, (address, ASK))
             peer.recv(4096)
@@ -129,7 +132,7 @@ def checksum(octets):
 
 def ping(address, octets):
     with socket.socket(socket.AF_INET, socket.SOCK_RAW, socket.IPPROTO_ICMP) as peer:
-        peer.settimeout(5)
+        peer.settimeout(PATIENCE)
         for number in range(octets or 10):
             rest = struct.pack("!HH", os.getpid() & 65535, number) + bytes(range(56))
             peer.sendto(struct.pack("!BBH", 8, 0, checksum(b"\x08\0\0\0" + rest)) + rest, (address, 0))

@@ -8,6 +8,7 @@ from contextlib import closing
 
 from live.network import INNER, OUTER
 from lib.outcome import Fault
+from lib.talk import PATIENCE
 from live.parts import ended, part, require, rest, sums_of_norm
 from live.program import report_end
 from live.raw import frames_of
@@ -58,7 +59,7 @@ def killed(trial):
         time.sleep(0.5)
         require(transfer.poll() is None, "the transfer has ended before norm was killed")
         bridge.kill_norm()
-        status = bridge.ended(5)
+        status = bridge.ended(PATIENCE)
         require(status == 1, "norm is killed, and the bridge ends with %s and not 1" % status)
         line.end(transfer)
         said = [one for one in bridge.words().splitlines() if "signal" in one.lower() or "killed" in one.lower()]
@@ -71,7 +72,9 @@ def killed(trial):
 @part("norm restarted", "curl")
 def restarted(trial):
     line = trial.line
-    with trial.bridge("--restart") as bridge, web(line, "outside", trial.folder, OCTETS) as inwards, web(line, "hosts", trial.folder, OCTETS) as out:
+    with trial.bridge("--restart") as bridge, \
+            web(line, "outside", trial.folder, OCTETS) as inwards, \
+            web(line, "hosts", trial.folder, OCTETS) as out:
         both = [(one, one.begin(60, RATE)) for one in (inwards, out)]
         time.sleep(0.5)
         bridge.kill_norm()
@@ -122,7 +125,7 @@ def cold(trial):
                     fault = server.fault(transfer)
                     require(fault is None, "the transfer: %s" % fault)
                     talker.ended.set()
-                    talker.thread.join(25)
+                    talker.thread.join(2 * PATIENCE)
                     ended(second)
     return ("ended in a transfer with status 0 and its counts, and started again: it and %d connections go on"
             % CONNECTIONS)
@@ -147,7 +150,7 @@ def overload(trial):
             for _ in range(count):
                 sender.send(frame + bytes(1400))
             bridge.kill_norm(signal.SIGCONT)
-        require(line.answers(5), "norm goes on, and nothing passes")
+        require(line.answers(PATIENCE), "norm goes on, and nothing passes")
         counts = ended(bridge)
     return ("norm stopped while %d frames of %d octets arrive: %d dropped by the kernel, and each counted"
             % (count, len(frame) + 1400, counts["outside.kernel"]))
@@ -169,11 +172,11 @@ def links(trial):
                 line.route_out()
                 require(bridge.ended(0.3) is None,
                         "%s goes down, and the bridge ends: %s" % (what, bridge.words()[-200:].strip()))
-                require(talk.wait(5 * CONNECTIONS, 15),
+                require(talk.wait(5 * CONNECTIONS),
                         "%s was down, and the connections do not go on: %s" % (what, talk.fault))
         try:
             line.ip("bridge", "link", "del", OUTER)
-            status = bridge.ended(5)
+            status = bridge.ended(PATIENCE)
         finally:
             line.join_outside()
         require(status == 1, "an interface vanishes, and the bridge ends with %s and not 1" % status)
@@ -195,7 +198,7 @@ def full(trial):
             ended(bridge)
         with trial.bridge("--keep", folder, "--strict", before=mounted) as bridge:
             transfer = server.begin(60)
-            status = bridge.ended(20)
+            status = bridge.ended(PATIENCE)
             line.end(transfer)
             require(status == 1, "with --strict it ends with %s and not 1" % status)
             nothing_passes(line, "the bridge has ended")

@@ -9,8 +9,8 @@ import sys
 import time
 from types import SimpleNamespace
 
-from lib.network import INSIDE, OUTSIDE, TALK
-from lib.talk import ECHO
+from lib.network import INSIDE, OUTSIDE, TALK, whole
+from lib.talk import ECHO, PATIENCE
 from live.attacks import of_two_eras, played
 from live.parts import ended, part, require, rest
 from live.program import total
@@ -28,6 +28,11 @@ CONNECTIONS, RATE, FLOWS = 100, 50000, 65536
 
 @part("attacks", "tcpdump")
 def attacks(trial):
+    return whole(lambda: attacked_twice(trial))
+
+
+def attacked_twice(trial):
+    """Plays the attacks with a plain bridge and with norm-bridge."""
     line = trial.line
     with trial.place() as folder:
         versions, _ = monitors.available(folder)
@@ -90,8 +95,8 @@ class Opened:
         self.server.stdout.readline()
         self.line, self.taker = line, frames_of(line, "outside")
         with line.within("outside"):
-            self.peer = socket.create_connection((INSIDE, ECHO), timeout=5)
-        self.peer.settimeout(2)
+            self.peer = socket.create_connection((INSIDE, ECHO), timeout=PATIENCE)
+        self.peer.settimeout(PATIENCE)
         self.ends = (INSIDE, ECHO), (OUTSIDE, self.peer.getsockname()[1])
 
     def talk(self, count=5):
@@ -108,7 +113,7 @@ class Opened:
                     got += len(more)
             except OSError:
                 return False
-            frame = caught(self.taker, 2, self.answers)
+            frame = caught(self.taker, PATIENCE, self.answers)
             if frame is None:
                 return False
             tcp = self.segment_of(frame)
@@ -165,7 +170,8 @@ def forge_all(line, opened):
         seq, ack = ((opened.following + ahead, opened.acked + acked) if of_inside
                     else (opened.acked + ahead, opened.following + acked))
         packet = segment(opened.ends if of_inside else opened.ends[::-1], seq % 2**32, ack % 2**32, flags)
-        with frames_of(line, host, protocol=0) as sender, frames_of(line, host) as taker, frames_of(line, other) as across:
+        with frames_of(line, host, protocol=0) as sender, frames_of(line, host) as taker, \
+                frames_of(line, other) as across:
             sender.send(ethernet(line, host, other, packet))
             for each in (taker, across):
                 require(caught(each, 0.2, lambda frame: frame[14:54] == packet[:40]) is None, "%s passes" % what)
@@ -180,8 +186,8 @@ def flooded(trial):
     with trial.bridge(after=("--flows", str(FLOWS))) as bridge, talking(line, CONNECTIONS) as talk:
         require(talk.wait(CONNECTIONS), "the connections do not begin: %s" % talk.fault)
         before, begun = talk.exchanges, time.monotonic()
-        sender = multiprocessing.get_context("fork").Process(target=flood, args=(line, INSIDE, ECHO, count, RATE),
-                                                             daemon=True)
+        sender = multiprocessing.get_context("fork").Process(
+            target=flood, args=(line, INSIDE, ECHO, count, RATE), daemon=True)
         sender.start()
         sender.join(90)
         require(sender.exitcode == 0, "the sender ends with %s" % sender.exitcode)
@@ -191,7 +197,8 @@ def flooded(trial):
         require(talk.fault is None, talk.fault)
         longest = talk.longest
         talk.ended.set()
-        talk.thread.join(25)
+        talk.thread.join(2 * PATIENCE)
         counts = ended(bridge)
-    return "%d SYNs in %.1f s, %d exchanges of %d connections meanwhile, the longest round %.2f s; %d frames dropped by the kernel, all counted" % (
-        count, seconds, exchanges, CONNECTIONS, longest, total(counts, "kernel"))
+    return ("%d SYNs in %.1f s, %d exchanges of %d connections meanwhile, the longest round %.2f s; "
+            "%d frames dropped by the kernel, all counted" % (
+                count, seconds, exchanges, CONNECTIONS, longest, total(counts, "kernel")))

@@ -92,7 +92,8 @@ class Line(Network):
     def within(self, host):
         """Moves this thread into the namespace: a socket that it opens stays there."""
         libc = ctypes.CDLL(None, use_errno=True)
-        with open("/proc/self/task/%d/ns/net" % threading.get_native_id(), "rb") as before, open("/run/netns/" + self.names[host], "rb") as there:
+        with open("/proc/self/task/%d/ns/net" % threading.get_native_id(), "rb") as before, \
+                open("/run/netns/" + self.names[host], "rb") as there:
             if libc.setns(there.fileno(), NEW_NETWORK) != 0:
                 raise OSError(ctypes.get_errno(), "setns")
             try:

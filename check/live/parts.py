@@ -7,6 +7,7 @@ import time
 from contextlib import contextmanager
 
 from lib.outcome import Fault
+from lib.talk import PATIENCE
 from live.network import INNER, OUTER
 from live.program import bridged, report_end, total
 
@@ -50,7 +51,9 @@ class Trial:
     def bridge(self, *options, after=(), before=(), rested=True):
         """norm-bridge with a report, in its own folder. `rested`: nothing talks yet, so that its
         counts can be compared with those of the interfaces."""
-        with self.place() as folder, bridged(self.line, self.asked, folder, ["--report", os.path.join(folder, "report"), *options], after, before) as made:
+        with self.place() as folder, \
+                bridged(self.line, self.asked, folder,
+                        ["--report", os.path.join(folder, "report"), *options], after, before) as made:
             made.base = base(made) if rested else None
             yield made
 
@@ -83,7 +86,7 @@ def base(bridge, seconds=5):
 def ended(bridge):
     """Ends the bridge at rest, and compares its counts with those of the report and, if it began
     at rest, of the interfaces. Returns the counts."""
-    settled = base(bridge, 20) if bridge.ended(0) is None else None
+    settled = base(bridge, PATIENCE) if bridge.ended(0) is None else None
     status = bridge.end()
     require(status == 0, "asked to end, it ends with %s: %s" % (status, bridge.words()[-200:].strip()))
     counts, report = bridge.last_counts(), report_end(bridge.folder)
@@ -117,7 +120,8 @@ def sums_of_interfaces(before, after):
         risen = {what: after[1][side + "." + what] - before[1][side + "." + what]
                  for what in ("received", "kernel", "sent")}
         arrived, sent = (after[0][device, what] - before[0][device, what] for what in ("rx_packets", "tx_packets"))
-        yield risen["received"] + risen["kernel"] == arrived, "%d frames arrived %s, and it counts %d" % (arrived, side, risen["received"] + risen["kernel"])
+        taken = risen["received"] + risen["kernel"]
+        yield taken == arrived, "%d frames arrived %s, and it counts %d" % (arrived, side, taken)
         yield risen["sent"] == sent, "%d frames were sent %s, and it counts %d" % (sent, side, risen["sent"])
 
 
@@ -127,6 +131,7 @@ def sums_of_norm(counts, report):
         yield False, "the report has no end"
         return
     given, wrote = total(counts, "given"), counts["norm.wrote"]
-    yield report == (given, wrote), "the report has %d records and %d frames, and it counts %d and %d" % (*report, given, wrote)
+    yield report == (given, wrote), ("the report has %d records and %d frames, and it counts %d and %d"
+                                     % (*report, given, wrote))
     out, sent = wrote + total(counts, "arp"), total(counts, "sent") + total(counts, "failed")
     yield out == sent, "%d frames were to be sent, and it counts %d" % (out, sent)

@@ -12,6 +12,7 @@ from contextlib import contextmanager
 
 from live.network import INNER, OUTER, PREFIX
 from lib.programs import TOP
+from lib.talk import PATIENCE
 
 SOURCE = os.path.join(TOP, "contrib", "bridge")
 
@@ -55,7 +56,7 @@ class Bridge:
         with open(self.said, encoding="utf-8", errors="replace") as file:
             return file.read()
 
-    def await_words(self, wanted, seconds=5):
+    def await_words(self, wanted, seconds=PATIENCE):
         """Waits until standard error has a match of the pattern; returns the match, or None."""
         deadline = time.monotonic() + seconds
         while True:
@@ -78,7 +79,7 @@ class Bridge:
                 found.append(int(number))
         return found
 
-    def await_norm(self, seconds=5):
+    def await_norm(self, seconds=PATIENCE):
         """Waits until norm runs; returns whether it does."""
         deadline = time.monotonic() + seconds
         while not self.norms() and time.monotonic() < deadline:
@@ -93,7 +94,7 @@ class Bridge:
         """Asks it for its counts, and returns them."""
         earlier = len(COUNTS.findall(self.words()))
         self.process.send_signal(signal.SIGUSR1)
-        deadline = time.monotonic() + 5
+        deadline = time.monotonic() + PATIENCE
         while time.monotonic() < deadline:
             lines = COUNTS.findall(self.words())
             if len(lines) > earlier:
@@ -101,7 +102,7 @@ class Bridge:
             time.sleep(0.02)
         raise OSError("norm-bridge prints no counts")
 
-    def end(self, seconds=10):
+    def end(self, seconds=PATIENCE):
         """Asks it to end; returns its status."""
         if self.process.poll() is None:
             self.process.terminate()
@@ -144,7 +145,7 @@ def bridged(line, asked, folder, options=(), after=(), before=()):
     that runs it."""
     made = Bridge(line, asked, folder, options, after, before)
     try:
-        if not line.answers(20):
+        if not line.answers(PATIENCE):
             raise OSError("nothing passes norm-bridge: " + made.words()[-300:])
         yield made
     finally:

@@ -55,7 +55,8 @@ def syns(line, target, port, count, first=0):
     head = ethernet(line, "outside", "hosts", b"")
     here, there = 0xC0000000, address(target)
     packet = ipv4(here, there, TCP_PROTOCOL, tcp(here, there, 0, port, 0, 0, 2))
-    ip_sum, tcp_sum = 65535 - int.from_bytes(packet[10:12], "big") - 0xC000, 65535 - int.from_bytes(packet[36:38], "big") - 0xC000
+    ip_sum, tcp_sum = (65535 - int.from_bytes(packet[10:12], "big") - 0xC000,
+                       65535 - int.from_bytes(packet[36:38], "big") - 0xC000)
     start, middle, target_ends, rest = head + packet[:10], packet[16:20], packet[22:24], packet[28:36]
     pack = struct.Struct("!24sHI4sH2sI8sHH").pack
     for number in range(first, first + count):

@@ -15,7 +15,7 @@ import time
 from contextlib import contextmanager
 
 from lib.network import INSIDE, OUTSIDE, TALK
-from lib.talk import ECHO
+from lib.talk import ECHO, PATIENCE
 
 ADDRESS = {"outside": OUTSIDE, "hosts": INSIDE}
 
@@ -99,7 +99,7 @@ def sha256(path):
     return made.hexdigest()
 
 
-def wait_for_port(line, host, port, seconds=10):
+def wait_for_port(line, host, port, seconds=PATIENCE):
     """Waits until a server on the host listens at the port."""
     listens, deadline = re.compile(r":%04X \w+:0000 0A " % port), time.monotonic() + seconds
     while time.monotonic() < deadline:
@@ -143,7 +143,7 @@ class Talk:
 
     def call(self):
         with self.line.within("outside"):
-            peer = socket.create_connection((INSIDE, ECHO), timeout=20)
+            peer = socket.create_connection((INSIDE, ECHO), timeout=PATIENCE)
         peer.setsockopt(socket.IPPROTO_TCP, socket.TCP_NODELAY, 1)
         return peer
 
@@ -172,7 +172,7 @@ class Talk:
             raise OSError("other octets arrive")
         self.exchanges += 1
 
-    def wait(self, exchanges, seconds=10):
+    def wait(self, exchanges, seconds=PATIENCE):
         """Waits for this number of exchanges more; returns whether there were in time."""
         wanted, deadline = self.exchanges + exchanges, time.monotonic() + seconds
         while self.exchanges < wanted and self.fault is None and time.monotonic() < deadline:
@@ -181,7 +181,7 @@ class Talk:
 
     def close(self):
         self.ended.set()
-        self.thread.join(25)
+        self.thread.join(2 * PATIENCE)
         for peer in self.peers:
             peer.close()
         self.line.end(self.server)

@@ -7,6 +7,7 @@ import struct
 import time
 
 from lib.network import INSIDE, OUTSIDE
+from lib.talk import PATIENCE
 from live.network import INNER, OUTER, PREFIX
 from live.parts import ended, part, require, shown
 from live.program import total
@@ -36,7 +37,7 @@ def refused(trial, what, options, words, after):
     line, asked = trial.line, trial.asked
     norm = [] if "--norm" in options else ["--norm", asked.norm]
     command = line.command("bridge",
-                           ["timeout", "5", asked.bridge, *norm, *options, *words, *(["--", *after] if after else [])])
+                           ["timeout", str(PATIENCE), asked.bridge, *norm, *options, *words, *(["--", *after] if after else [])])
     process = line.start("bridge", *command[4:], stderr=-1, stdout=-3, text=True)
     said = process.communicate()[1]
     line.end(process)
@@ -79,7 +80,8 @@ def pings(trial):
 @part("transfers", "curl")
 def transfers(trial):
     line, begun = trial.line, time.monotonic()
-    with trial.bridge() as bridge, web(line, "hosts", trial.folder, OCTETS) as out, web(line, "outside", trial.folder, OCTETS) as inwards:
+    with trial.bridge() as bridge, web(line, "hosts", trial.folder, OCTETS) as out, \
+            web(line, "outside", trial.folder, OCTETS) as inwards:
         with talking(line, CONNECTIONS) as talk:
             begun, both = time.monotonic(), [(one, one.begin(60)) for one in (out, inwards)]
             for one, transfer in both:
@@ -88,8 +90,9 @@ def transfers(trial):
             seconds, exchanges = time.monotonic() - begun, talk.exchanges
             require(talk.fault is None, talk.fault)
         counts = ended(bridge)
-    return "%d MB of HTTP each way with one SHA-256, beside %d exchanges of %d connections, in %.1f s; %d frames counted" % (
-        OCTETS // 10**6, exchanges, CONNECTIONS, seconds, total(counts, "given"))
+    return ("%d MB of HTTP each way with one SHA-256, beside %d exchanges of %d connections, in %.1f s; "
+            "%d frames counted" % (
+                OCTETS // 10**6, exchanges, CONNECTIONS, seconds, total(counts, "given")))
 
 
 @part("three norms", "curl", "ping")
@@ -108,7 +111,7 @@ def three_norms(trial):
         norms = bridge.norms()
         require(len(norms) == 3, "%d processes of norm" % len(norms))
         os.kill(norms[1], signal.SIGKILL)
-        status = bridge.ended(10)
+        status = bridge.ended(PATIENCE)
         require(status == 1, "one of three is killed, and the bridge ends with %s and not 1" % status)
         require(not bridge.norms(), "one of three is killed, and others run on")
     return ("%d hosts and a transfer, %d frames counted in three reports; one is killed: status 1"
@@ -168,7 +171,7 @@ def counted(trial):
     risen = {what: total(now, what) - total(before, what) for what in ("given", "arp", "forged", "unjudged")}
     for what in ("given", "arp", "forged"):
         require(risen[what] >= sent[what], "%d frames are counted as %s, of %d" % (risen[what], what, sent[what]))
-    dropped, wanted = risen["forged"] + risen["unjudged"], sum(sent[what]
-                                                               for what in ("forged", "forged arp", "unjudged"))
+    dropped = risen["forged"] + risen["unjudged"]
+    wanted = sum(sent[what] for what in ("forged", "forged arp", "unjudged"))
     require(dropped == wanted, "%d frames are counted as forged or not judged, of %d" % (dropped, wanted))
     return "%d frames of %d kinds: each counted, as the interfaces and the report count them" % (sum(sent.values()), 7)

@@ -91,8 +91,8 @@ class Connection:
     def flight(self, peer, other, flight):
         chance = self.rng.random()
         ends = [seq + len(payload) for seq, payload in flight]
-        segments = [self.segment(peer, PSH | ACK if n + 1 == len(flight) else ACK, payload, seq) for n,
-                    (seq, payload) in enumerate(flight)]
+        segments = [self.segment(peer, PSH | ACK if n + 1 == len(flight) else ACK, payload, seq)
+                    for n, (seq, payload) in enumerate(flight)]
         if chance < 0.05 and len(flight) == 2:
             # The network exchanged them, or lost the first one: it is sent again, after the answer
             # to the second one.

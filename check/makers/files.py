@@ -70,7 +70,8 @@ def good_words(rng, built, inside=0.01, both=0.2):
 def both_words(rng):
     """Both sides protected: once, twice, with a value, and beside the options with which it does
     not stand."""
-    beside = rng.choice([["--inside=in"], ["--inside", "in"], ["--mtu=600"], ["--mtu", "600"], ["--offload"], ["--hops=3"]])
+    beside = rng.choice([["--inside=in"], ["--inside", "in"], ["--mtu=600"], ["--mtu", "600"],
+                         ["--offload"], ["--hops=3"]])
     return [["--both"], ["--both"] + beside, beside + ["--both"],
             rng.choice([["--both"] * 2, ["--both="], ["--both=1"], ["--both=both"], ["--both", "1"], ["--bot"],
                         ["-both"], ["--Both"], ["--mirror"]])]

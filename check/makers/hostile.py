@@ -139,7 +139,8 @@ def opened(out, source, sport, target, base, scale=None):
 def plain(out, sizes, connections):
     """Segments of this number of connections in order, those of each in turn, and an acknowledgment
     for every 32,768 octets."""
-    ends = [(0x64400000 + number, 1024 + number % 60000, INSIDE + number % 200, number * 2654435761 % 2**32) for number in range(connections)]
+    ends = [(0x64400000 + number, 1024 + number % 60000, INSIDE + number % 200,
+             number * 2654435761 % 2**32) for number in range(connections)]
     for end in ends:
         opened(out, *end)
     sent = [0] * connections

@@ -26,7 +26,8 @@ def open_engines(settings, link):
 def record_of(record, frame):
     """A frame that was written for a record, as a record: it has the record's time and place, and
     its own length."""
-    return SimpleNamespace(seconds=record.seconds, fraction=record.fraction, offset=record.offset, side=None, original=len(frame), octets=frame)
+    return SimpleNamespace(seconds=record.seconds, fraction=record.fraction, offset=record.offset,
+                           side=None, original=len(frame), octets=frame)
 
 
 def step_engines(engines, record):

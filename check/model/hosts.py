@@ -5,7 +5,8 @@ Each takes the packets of one connection, in both directions and in order, and g
 inwards as it reads them.
 """
 
-from model.formats import ACK, FIN, RST, SYN, TCP, URG, pseudo_sum, read_ipv4, read_tcp, sum_right, write_ipv4, write_tcp
+from model.formats import (ACK, FIN, RST, SYN, TCP, URG, pseudo_sum, read_ipv4, read_tcp, sum_right,
+                           write_ipv4, write_tcp)
 from model.fragment_rows import datagram_key, is_fragment
 from model.packets import INSIDE
 

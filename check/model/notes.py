@@ -80,7 +80,8 @@ def is_left_to_card(item):
     if names(item, "T_SUM", "U_SUM") and (is_segment(item) or is_datagram(item)):
         message = message_of(item)
         field = u16(message, 16 if item.flow.protocol == TCP else 6)
-        if field != 0 and field % 65535 == pseudo_sum(item.flow.src, item.flow.dst, item.flow.protocol, len(message)) % 65535:
+        if field != 0 and field % 65535 == pseudo_sum(
+                item.flow.src, item.flow.dst, item.flow.protocol, len(message)) % 65535:
             return True
     return (names(item, "I_SUM") and u16(packet, 10) == 0) or (names(item, "I_LEN") and read_ipv4(packet).total == 0)
 

@@ -97,7 +97,7 @@ def record(octets, seconds=0, fraction=0, original=None, captured=None, order="l
     return b"".join(value.to_bytes(4, order) for value in (seconds, fraction) + lengths) + octets
 
 
-def capture_of(packets):
-    """A little-endian capture of raw IP; a pair is a packet with its seconds."""
+def capture_of(packets, link=101):
+    """A little-endian capture, of raw IP by default; a pair is a packet with its seconds."""
     pairs = [packet if isinstance(packet, tuple) else (packet, 0) for packet in packets]
-    return head() + b"".join(record(octets, seconds) for octets, seconds in pairs)
+    return head(link=link) + b"".join(record(octets, seconds) for octets, seconds in pairs)

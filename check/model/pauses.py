@@ -49,7 +49,8 @@ def given(settings, head, steps):
     frames = [capture.write_record(head, record.seconds, record.fraction, frame) for record, (_, _, written) in steps
               for frame in written]
     lines = [report.lines_of(entry, behind, WHOLE.report_version) for _, (entry, behind, _) in steps]
-    return capture.write_head(head) + b"".join(frames), report.first_line(WHOLE.report_version, settings.both) + "".join(lines)
+    return (capture.write_head(head) + b"".join(frames),
+            report.first_line(WHOLE.report_version, settings.both) + "".join(lines))
 
 
 def flushes(settings, parts):

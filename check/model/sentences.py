@@ -35,7 +35,8 @@ SENTENCES = {
     "M_SHORT": "an ICMP message has fewer than 8 octets",
     "M_SUM": "the ICMP checksum is wrong",
     "M_TYPE": "the ICMP type is not 0, 3, 8, 11, 12, 13 or 14",
-    "M_QUOTE": "an inbound ICMP error quotes no packet from a trusted to an untrusted address, or a segment without a live era",
+    "M_QUOTE": "an inbound ICMP error quotes no packet from a trusted to an untrusted address, or "
+               "a segment without a live era",
     "U_SUM_OUT": "the checksum of an outbound UDP message is computed again",
     "T_SHORT": "a segment has fewer than 20 octets",
     "T_HLEN": "the data offset is below 5 words or longer than the segment",
@@ -73,18 +74,24 @@ CLASS_TEXTS = {
 
 # What is to be done where there is a note; of those with several texts see advice_of.
 ADVICE = {
-    "lost": "IN lacks packets: capture again with a greater buffer (-B of tcpdump or dumpcap), and see how many packets were dropped",
+    "lost": "IN lacks packets: capture again with a greater buffer (-B of tcpdump or dumpcap), and "
+            "see how many packets were dropped",
     "order": "octets follow their acknowledgment: reordercap IN SORTED, and run norm on SORTED",
-    "half": "IN begins in mid-connection, or is one of several files: norm-rotated joins the files of a rotated capture",
+    "half": "IN begins in mid-connection, or is one of several files: norm-rotated joins the files "
+            "of a rotated capture",
     "one": "TCP of one direction: capture both directions, or correct PREFIX or the name of --inside",
     "card": "checksums are left to the network card: ethtool -K DEV tx off tso off at the senders, and capture again",
-    "wrong": "most checksums are wrong: capture with gro off and lro off; correcting them in IN would also correct an attacker's",
-    "twice": "packets are in IN twice: capture on one interface and not on any; editcap -d removes copies that are equal in every octet",
-    "foreign": "most packets belong to no side: PREFIX is to name the inside; tshark -q -z endpoints,ip -r IN lists addresses",
+    "wrong": "most checksums are wrong: capture with gro off and lro off; correcting them in IN "
+             "would also correct an attacker's",
+    "twice": "packets are in IN twice: capture on one interface and not on any; editcap -d removes "
+             "copies that are equal in every octet",
+    "foreign": "most packets belong to no side: PREFIX is to name the inside; tshark -q -z "
+               "endpoints,ip -r IN lists addresses",
     "tagged": "IPv4 after VLAN tags is dropped: tcprewrite --enet-vlan=del -i IN -o UNTAGGED, and run norm on UNTAGGED",
     "ipv6": "TCP and UDP over IPv6 are dropped and not judged",
     "tunnels": "tunnels and SCTP are dropped: capture inside of a tunnel",
-    "full": "a table was full: run norm again with a greater value of each option that counts here: --flows, --cells, --quota, --frags, --frag-cells",
+    "full": "a table was full: run norm again with a greater value of each option that counts "
+            "here: --flows, --cells, --quota, --frags, --frag-cells",
     "cut": "packets are cut short: capture again with tcpdump -s 0",
     "unjudged": "most records were dropped before their payload was judged",
 }

@@ -84,8 +84,8 @@ def new_item(run, by, entry, record, number):
     """The item of a line of this engine, without frames. `given`: its frames went to the second
     engine. `before`: how many frames in OUT are before its own. `written`: the frames in OUT that
     this record, or frame of the first engine, led to."""
-    return SimpleNamespace(by=by, number=number, entry=entry, time=time_of(run.source.head, record), given=run.both and by == "first",
-                           before=run.written.taken,
+    return SimpleNamespace(by=by, number=number, entry=entry, time=time_of(run.source.head, record),
+                           given=run.both and by == "first", before=run.written.taken,
                            frames=[], written=[], flow=flow_of(run.link, record.octets),
                            length=length_of(run.link, record.octets), changes=[],
                            link=run.link, record=record.octets,

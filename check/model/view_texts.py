@@ -146,8 +146,11 @@ def counts(by_verdict):
 def rule_counts(rules):
     """For each rule, in the order in which they are first named: how often lines of each side name
     it."""
-    lines = ["\nrule %s %d (%s)" % (rule, min(sum(sides.values()), 2**64 - 1), SENTENCES[rule]) for rule, sides in rules.items()]
-    return printed("".join(lines), [{"rule": rule, "in": sides["in"], "out": sides["out"], "neither": sides["-"]} for rule, sides in rules.items()])
+    lines = ["\nrule %s %d (%s)" % (rule, min(sum(sides.values()), 2**64 - 1), SENTENCES[rule])
+             for rule, sides in rules.items()]
+    return printed("".join(lines),
+                   [{"rule": rule, "in": sides["in"], "out": sides["out"], "neither": sides["-"]}
+                    for rule, sides in rules.items()])
 
 
 def type_counts(types):

@@ -5,7 +5,8 @@ import os
 import re
 import textwrap
 
-from pages.evasion_page import BASE, TOP, capture_file, check_agreement, first_connection, frames_of, packet_of, rows
+from cases.notation import packet_of
+from pages.evasion_page import BASE, TOP, capture_file, check_agreement, first_connection, frames_of, rows
 from model.capture import read_head, read_records
 from model.formats import TCP, pseudo_sum, read_ipv4, read_tcp, sum_right
 from model.fragment_rows import is_fragment
@@ -42,7 +43,8 @@ KINDS_OF_OPTION = {131: "source route", 137: "source route"}
 
 # The legend: the fill of a box or the kind of a mark, and its meaning, in the order in which they
 # are shown.
-LEGEND = (("clash", "sent with two values"), ("rewritten", "rewritten"), ("cut", "cut off"), ("hold", "held"), ("drop", "dropped"))
+LEGEND = (("clash", "sent with two values"), ("rewritten", "rewritten"), ("cut", "cut off"),
+          ("hold", "held"), ("drop", "dropped"))
 
 PAST_NOTE = "Dashed: octets that reached the host past norm and the monitor."
 
@@ -82,7 +84,8 @@ class Shown:
                 self.words[name] = name
         begin = tcp.seq + (1 if "SYN" in self.words else 0)
         self.number = tcp.seq
-        self.words["seq"] = "%d:%d" % (begin, begin + len(tcp.payload)) if tcp.payload and begin == tcp.seq else "%d" % tcp.seq
+        self.words["seq"] = ("%d:%d" % (begin, begin + len(tcp.payload))
+                             if tcp.payload and begin == tcp.seq else "%d" % tcp.seq)
         if tcp.ack:
             self.words["ack"] = "ack %d" % tcp.ack
         self.octets = {begin - BASE + i: octet for i, octet in enumerate(tcp.payload)} if self.inward else {}
@@ -132,8 +135,8 @@ class EvasionDrawing:
 
     def __init__(self, case, came, report, frames):
         self.case, self.entries = case, read_report(report).entries
-        self.came, self.frames = [Shown(packet) for packet in came], [[Shown(packet) for packet in packets]
-                                                                      for packets in frames]
+        self.came = [Shown(packet) for packet in came]
+        self.frames = [[Shown(packet) for packet in packets] for packets in frames]
         self.past = {place: Shown(packet_of(line)) for place, line in case.past}
         self.clash = clashing([*self.came, *self.past.values()])
         self.room = HEADER * 20 + 4 if any(shown.header for shown in self.came) else 0
@@ -372,7 +375,8 @@ BOXES = ((16, 46, 150, 62, ("outside", "the untrusted network")), (300, 30, 214,
 def inline_drawing():
     """Draws norm between the untrusted network and the protected hosts with their monitor."""
     picture = Picture(WIDTH, "norm inline",
-                      "Packets of the untrusted network reach the hosts and their monitor only through norm, which writes what all of them read alike.")
+                      "Packets of the untrusted network reach the hosts and their monitor only "
+                      "through norm, which writes what all of them read alike.")
     for x, y, width, height, words in BOXES:
         picture.rect(x, y, width, height, "#eef2ff" if words else "#fef3c7", "#c7d2fe" if words else REWRITTEN, rx=4)
         for place, text in enumerate(words):
@@ -446,7 +450,8 @@ def crates_drawing():
                       "The crates in layers, with one of the longest chains of uses: " + " uses ".join(chain))
     picture.text(16, 26, "The crates in layers", 16, font_weight="bold")
     picture.text(16, 46,
-                 "An arrow leads to a crate that is used: one of the longest chains below the program norm, of %d crates. The others of a layer are at the "
+                 "An arrow leads to a crate that is used: one of the longest chains below the "
+                 "program norm, of %d crates. The others of a layer are at the "
                  "right." % len(chain), 10.5, fill=PALE)
     y, places = 60, {}
     for title, crates in reversed(layers):

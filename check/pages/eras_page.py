@@ -62,7 +62,8 @@ def rows(case, outcome, standard_outcome):
     for host, some, other in zip(case.hosts, streams_of(case, outcome), streams_of(case, standard_outcome)):
         for policy, one, two in zip(POLICIES, some, other):
             found.setdefault((host.label, shown(one), shown(two)), []).append(policy)
-    return ["%s, %s (%s)" % (label if len(policies) == len(POLICIES) else "%s by %s" % (label, " or ".join(policies)), one, two)
+    return ["%s, %s (%s)" % (label if len(policies) == len(POLICIES) else "%s by %s"
+                             % (label, " or ".join(policies)), one, two)
             for (label, one, two), policies in found.items()]
 
 
@@ -76,7 +77,8 @@ def check_streams(case, outcome, standard_outcome):
 
 def section(case, outcome, standard_outcome):
     check_streams(case, outcome, standard_outcome)
-    told = "Delivered of this (and under the standard options): %s. %s" % ("; ".join(rows(case, outcome, standard_outcome)), case.prose["answer"])
+    told = ("Delivered of this (and under the standard options): %s. %s"
+            % ("; ".join(rows(case, outcome, standard_outcome)), case.prose["answer"]))
     drawn = columns(case, outcome[0], frames_of(case, *outcome), timed_line)
     said = case.prose["case"] + " (`%s`, `%s`)" % (case.name, case.prose["options"])
     return "\n\n".join(["### " + case.title, wrapped(said), drawn, wrapped(told)]) + "\n"

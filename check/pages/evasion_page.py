@@ -2,16 +2,16 @@
 writes its section of docs/EVASIONS.md."""
 
 import os
-import re
 import textwrap
 from types import SimpleNamespace
 
+from cases.notation import line_of, packet_of
 from pages import measured
 from model.capture import read_head, read_records
 from model.formats import read_ipv4
 from model.fragment_rows import is_fragment
 from model.hosts import READERS, fields
-from model.packets import INSIDE, LETTERS, capture_of, ipv4, segment
+from model.packets import capture_of
 from model.receivers import POLICIES, all_agree, deliver
 from model.report import frames_by_entry, read_report
 from pages.markdown import anchor
@@ -23,22 +23,6 @@ DESCRIPTIONS = os.path.join(TOP, "examples", "evasions.txt")
 PAGE = os.path.join(TOP, "docs", "EVASIONS.md")
 
 BASE, WIDTH = 1000, 100
-
-# The octets of a segment that a fragment has.
-PART = re.compile("octets ([0-9]+) to ([0-9]+)")
-
-# A field that is not as usual: its name in a line, the maker's name, how its value is read, and
-# how it is written.
-FIELDS = (
-    ("TTL", "ttl", int, str),
-    ("window", "window", int, str),
-    ("urgent", "urgent", int, str),
-    ("reserved", "reserved", int, str),
-    ("options", "ip_options", bytes.fromhex, bytes.hex),
-    ("port", "outside_port", int, str),
-)
-
-USUAL = {"ttl": 64, "window": 8192, "urgent": 0, "reserved": 0, "ip_options": b"", "outside_port": 40000}
 
 HEAD = """# Evasions
 
@@ -95,47 +79,6 @@ def add_line(case, line):
         case.prose[case.last] += " " + line.strip()
     else:
         raise ValueError("%s: nobody knows what this says: %s" % (case.name, line))
-
-
-def packet_of(line):
-    """The packet of a line such as `> PA 1000,5001 abcd, TTL 1`."""
-    text, *marks = line.split(", ")
-    places = [PART.fullmatch(mark) for mark in marks if PART.fullmatch(mark)]
-    values = dict(value_of(mark) for mark in marks if mark != "wrong sum" and not PART.fullmatch(mark))
-    packet = segment(text, **values)
-    packet = packet[:37] + bytes([packet[37] ^ 1]) + packet[38:] if "wrong sum" in marks else packet
-    return fragment_of(packet, int(places[0][1]), int(places[0][2])) if places else packet
-
-
-def fragment_of(packet, first, last):
-    """A fragment with these octets of the packet's segment."""
-    ip = read_ipv4(packet)
-    message = packet[ip.header:]
-    return ipv4(ip.src, ip.dst, ip.protocol, message[first:last + 1], ttl=ip.ttl, ident=ip.ident,
-                mf=last + 1 < len(message), offset=first)
-
-
-def value_of(mark):
-    for name, field, read, _ in FIELDS:
-        if mark.startswith(name + " "):
-            return field, read(mark[len(name) + 1:])
-    raise ValueError("nobody knows the field: %s" % mark)
-
-
-def line_of(packet):
-    """The line that this packet is made from."""
-    ip, tcp = fields(packet)
-    inward = ip.dst == INSIDE
-    values = {"ttl": ip.ttl, "window": tcp.window, "urgent": tcp.urgent, "reserved": tcp.reserved,
-              "ip_options": packet[20:ip.header], "outside_port": tcp.sport if inward else tcp.dport}
-    letters = "".join(letter for letter in "USFRPA" if tcp.flags & LETTERS[letter])
-    line = "%s %s %d%s" % (">" if inward else "<", letters, tcp.seq, ",%d" % tcp.ack if tcp.ack else "")
-    line += " " + tcp.payload.decode("ascii", "replace") if tcp.payload else ""
-    line += "".join(", %s %s" % (name, write(values[field])) for name, field, _, write in FIELDS
-                    if values[field] != USUAL[field])
-    if packet_of(line) != packet:
-        raise ValueError("no line makes the packet %s" % packet.hex())
-    return line
 
 
 def capture_file(case):
@@ -243,7 +186,8 @@ def section(case, report, written):
     check_agreement(case, went)
     found = rows(case, came, went)
     drawing = "![%s](pictures/%s.svg)" % (case.title, case.name)
-    return "\n\n".join(["## " + case.title, wrapped(case.prose["attack"] + " " + answer(case)), drawing]) + "\n", top_row(case, report, found)
+    return "\n\n".join(["## " + case.title, wrapped(case.prose["attack"] + " " + answer(case)),
+                        drawing]) + "\n", top_row(case, report, found)
 
 
 def answer(case):
@@ -265,7 +209,8 @@ def top_row(case, report, found):
 
 def page(outcomes):
     """The page, from pairs of a description and its outcome, the report and the octets written."""
-    sections, table = [], ["| Evasion | Name | One receiver delivers | Another delivers | All, of what norm wrote | In the report |", "|---|---|---|---|---|---|"]
+    sections, table = [], ["| Evasion | Name | One receiver delivers | Another delivers "
+                           "| All, of what norm wrote | In the report |", "|---|---|---|---|---|---|"]
     for case, (report, written) in outcomes:
         try:
             text, row = section(case, report, written)

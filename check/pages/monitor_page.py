@@ -3,11 +3,10 @@ examples/monitors.txt and writes a section for each."""
 
 import os
 
-from pages.evasion_page import BASE, DESCRIPTIONS, columns, line_of, packet_of, read_descriptions, shown, wrapped
+from cases.notation import line_of, packet_of, seconds_of
+from pages.evasion_page import BASE, DESCRIPTIONS, columns, read_descriptions, shown, wrapped
 from model.capture import read_head, read_records
-from model.formats import four
-from model.hosts import TIMESTAMPS, timestamp
-from model.packets import LETTERS, capture_of, segment
+from model.packets import capture_of
 from model.receivers import POLICIES, deliver
 from model.report import frames_by_entry, read_report
 
@@ -25,7 +24,8 @@ acknowledged. One that has room for fewer connections than `--flows` forgets som
 And one that waits for a handshake does not begin a connection where norm does.
 
 A packet is written as `> PA 1000,5001 abcd`: inbound (`>`) or outbound (`<`), flags, sequence
-number, acknowledgment number and octets. Fields that differ from the default follow after commas.
+number, acknowledgment number and octets, in which `_` is a space. Fields that differ from the
+default follow in brackets: a window, a port, or the second `t`. `$STAMP9` is a timestamp of 9.
 On the left is what arrives, in the middle the report, on the right what norm writes. The handshake
 (`> S 999`, `< SA 5000,1000`, `> A 1000,5001`) passes, and is left out. The name in brackets is that
 of the capture in `examples/`.
@@ -39,38 +39,15 @@ class Packet(bytes):
 
 
 def timed(line):
-    """The packet of a line that may also name a timestamp and a second."""
-    text, *marks = line.split(", ")
-    values = dict(mark.split(" ", 1) for mark in marks)
-    second, stamp = int(values.pop("second", 0)), values.pop("timestamp", None)
-    plain = ", ".join([text] + ["%s %s" % pair for pair in values.items()])
-    packet = Packet(packet_of(plain) if stamp is None else segment(text, options=TIMESTAMPS + four(int(stamp)) + four(0)))
-    packet.second = second
+    """The packet of a line, with the second of its record."""
+    packet = Packet(packet_of(line))
+    packet.second = seconds_of(line)
     return packet
 
 
 def timed_line(packet):
     """The line that this packet is made from."""
-    stamp = timestamp(packet)
-    line = line_of(packet) if stamp is None else line_of(without_timestamp(packet)) + ", timestamp %d" % stamp
-    return line + (", second %d" % packet.second if packet.second else "")
-
-
-def without_timestamp(packet):
-    """The packet as it would be made without the option."""
-    letters = "".join(letter for letter in "USFRPA" if packet[33] & LETTERS[letter])
-    text = "> %s %d,%d %s" % (letters, *numbers(packet), payload(packet).decode("ascii"))
-    if segment(text, options=packet[40:52]) != packet:
-        raise ValueError("no line makes the packet %s" % packet.hex())
-    return segment(text)
-
-
-def numbers(packet):
-    return int.from_bytes(packet[24:28], "big"), int.from_bytes(packet[28:32], "big")
-
-
-def payload(packet):
-    return packet[20 + packet[32] // 16 * 4:]
+    return line_of(packet, packet.second)
 
 
 def read_monitors():
@@ -90,7 +67,8 @@ def frames_of(case, report, written):
     packets = [Packet(record.octets) for record in records]
     for packet, record in zip(packets, records):
         packet.second = record.seconds
-    if [entry.number for entry in read.entries] != list(range(1, len(case.lines) + 1)) or len(packets) != sum(entry.packets for entry in read.entries):
+    numbers, counts = [entry.number for entry in read.entries], [entry.packets for entry in read.entries]
+    if numbers != list(range(1, len(case.lines) + 1)) or len(packets) != sum(counts):
         raise ValueError("the report has other records or frames than the captures")
     return frames_by_entry(read.entries, packets)
 
@@ -112,7 +90,9 @@ def section(case, report, written):
         raise ValueError("a receiver reads as much as the host")
     read = ["%s, %s" % (host.label, shown(stream)) for host, stream in zip(case.hosts, streams)]
     told = "Delivered of this: %s. %s" % ("; ".join(read), case.prose["answer"])
-    return "\n\n".join(["### " + case.title, wrapped(case.prose["case"] + " (`%s`)" % case.name), columns(case, report, frames, timed_line), wrapped(told)]) + "\n"
+    said = wrapped(case.prose["case"] + " (`%s`)" % case.name)
+    drawn = columns(case, report, frames, timed_line)
+    return "\n\n".join(["### " + case.title, said, drawn, wrapped(told)]) + "\n"
 
 
 def monitor_part(outcomes):

@@ -72,6 +72,8 @@ class Crate:
                 return at
         if tokens[at] == "ghost":
             return find_outside(tokens, at, {";"}) + 1
+        if tokens[at] == "macro_rules":
+            return end_of_group(tokens, at + 3)
         public = tokens[at] == "pub" and tokens[at + 1] != "("
         if tokens[at] == "pub":
             at = at + 1 if public else end_of_group(tokens, at + 1)
@@ -259,7 +261,9 @@ def made(name, read):
         return Item("fn", name, "fn " + name + function_text(tokens[1:]), read.doc)
     if word in ("const", "static"):
         end = find_outside(tokens, 0, {";"})
-        return Item("const", name, word + " " + name + rendered(short(tokens[1:end])), read.doc)
+        text = rendered(short(tokens[1:end]))
+        # A text of several lines is in its source alone.
+        return Item("const", name, word + " " + name + (text.partition(" = ")[0] if "\n" in text else text), read.doc)
     if word == "type":
         return Item("type", name, "type " + last + rendered(short(tokens[1:-1])).replace("= ", " = ", 1), read.doc)
     if word in ("struct", "enum"):

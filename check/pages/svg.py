@@ -15,7 +15,9 @@ def number(value):
 def attributes(values):
     """Writes the attributes of an element; `__` in a name becomes `:`, `_` becomes `-`, and None
     leaves the attribute out."""
-    return "".join(" %s=%s" % (name.replace("__", ":").replace("_", "-"), quoteattr(number(value) if isinstance(value, (int, float)) else value))
+    return "".join(" %s=%s" % (name.replace("__", ":").replace("_", "-"),
+                               quoteattr(number(value) if isinstance(value, (int, float))
+                                         else value))
                    for name, value in values.items() if value is not None)
 
 

@@ -43,7 +43,7 @@ def real_records(folder):
         network.offloads("off")
         for host, hook in (("router", "forward"), ("outside", "input")):
             network.run(host, "nft", LOSSY % hook)
-        with network.capture(path, words=("-B", "65536", "ip", "and", "host", INSIDE)):
+        with network.capture(path, words=("ip", "and", "host", INSIDE)):
             clients = [threading.Thread(target=talk, args=(network, *one)) for one in TALKS]
             for client in clients:
                 client.start()

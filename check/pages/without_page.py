@@ -27,12 +27,14 @@ HEAD = ["Without", "Changed", "Two disagree", "Which, with Linux or themselves",
 def section(found):
     """`found` has the lines of without.txt."""
     date = found["system"][0][1]
-    rows = [[code(rule), changed, disagree, named(who), less, named(whose)] for rule, changed, disagree, who, less, whose in found["rule"] if disagree != "0"]
+    rows = [[code(rule), changed, disagree, named(who), less, named(whose)]
+            for rule, changed, disagree, who, less, whose in found["rule"] if disagree != "0"]
     fewer = ["%s %s" % (code(rule), less) for rule, _, disagree, _, less, _ in found["rule"] if disagree == "0" != less]
     rest = [code(rule) for rule, _, disagree, _, less, _ in found["rule"] if disagree == less == "0"]
     about = ABOUT % (found["attacks"][0][0], date)
     texts = [about, LAYERS % (", ".join(fewer), ", ".join(rest)), LIMITS]
-    return "\n\n".join(["## " + TITLE, wrapped(texts[0]), table(HEAD, rows)] + [wrapped(text) for text in texts[1:]]) + "\n"
+    return "\n\n".join(["## " + TITLE, wrapped(texts[0]), table(HEAD, rows)]
+                       + [wrapped(text) for text in texts[1:]]) + "\n"
 
 
 def named(receivers):

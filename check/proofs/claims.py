@@ -1,6 +1,7 @@
 """What check/proofs/falsified tries: the claims of each check, and the false program or file that
 shows each of them. A claim is in the words of the head of its script."""
 
+import re
 from typing import Callable, NamedTuple
 
 from proofs.falsehoods import PROGRAMS
@@ -277,6 +278,7 @@ CHECKS = {
     "proofs/falsified": Check("--page", (), (), [
         lacking("the claims of check/README.md", "check/README.md lacks a claim", "check/README.md",
                 "| normaudit answers yes always |"),
+        lacking("with their numbers", "check/README.md lacks their numbers", "check/README.md", " are noticed, and "),
         changed("in the head of its script", "the head of a script says something else", "check/against_model/audits",
                 "status and line.", "status."),
     ]),
@@ -311,7 +313,7 @@ CHECKS = {
                 "](#what-is-shown)"),
         added("file names", "a page names a script that does not exist", "docs/RECIPES.md", "\nSee `check/nothing`.\n"),
         lacking("must name each script", "check/README.md does not name a script", "check/README.md",
-                "`check/against_model/audits`"),
+                "| `check/against_model/audits` | the audit"),
     ]),
     "receivers/monitors": Check("", (), ("tshark", "tcpflow"), [
         changed("where the page says otherwise", "docs/MONITORS.md has other octets in a cell", "docs/MONITORS.md",
@@ -321,11 +323,7 @@ CHECKS = {
     "makers/mutants": Check("--count 10 --only both_sides", (), (), [
         lacking("small changes of the model", "a change that means the same is not known",
                 "check/makers/mutants_known.txt", "both_sides.MOST"),
-    ], tuple("--only " + module for module in (
-        "link_rows", "fragment_rows", "datagram_rows", "segment_rows", "era_rows", "eras", "frames", "engine",
-        "formats", "capture", "pcapng", "words", "both_sides", "report", "run", "notes", "view", "view_choice",
-        "view_eras", "view_fields", "view_firsts", "view_hosts", "view_input", "view_items", "view_lists",
-        "view_reading", "view_streams", "view_texts", "view_words", "sentences"))),
+    ]),
     "against_model/notes": Check("--count 1", ("norm", "normview"), (), [
         view("which notes there are", "names no note"),
         view("whether they are true", "names each note `foreign`"),
@@ -398,14 +396,21 @@ CHECKS = {
         added("lists the definitions that no contract rests on", "a definition that no contract rests on",
               "crates/wire_base/specs/Numbers.antt",
               "\n-- seven\nabbrev pub unneeded : \u2115\nunneeded = 7\n", "--unused"),
+        changed("each definition of specs/ that no public contract rests on", "`error_line` is not public",
+                "crates/error_line/src/lib.rt", "pub use line::{error_line, ", "pub use line::{", "--apart"),
+        changed("each of specs/working/ that one rests on", "`Syns::shift` is public",
+                "crates/era_state/src/syns.rt", "pub(crate) fn shift(", "pub fn shift(", "--apart"),
+        *[Claim("the counts in README.md and docs/PROVED.md", "file", page + " counts 7 definitions", page,
+                lambda text: re.sub(r"[0-9,]+(?=\sdefinitions\s\()", "7", text), "--apart")
+          for page in ("README.md", "docs/PROVED.md")],
     ]),
     "pages/surface": Check("", (), (), [
         lacking("docs/dev/API.md", "docs/dev/API.md lacks an item", "docs/dev/API.md", "fn read_prefix("),
         changed("the public items of the crates", "an item is not made public", "crates/udp_codec/src/lib.rt",
                 "pub use checksum::mend;\n", ""),
-        changed("with its signature", "a parameter has another type", "crates/wire_base/src/prefix.rt",
+        changed("with its signature", "a parameter has another type", "crates/wire_base/src/address.rt",
                 "read_prefix(text: &str)", "read_prefix(text: &[u8])"),
-        changed("and its comment", "a comment says something else", "crates/wire_base/src/prefix.rt",
+        changed("and its comment", "a comment says something else", "crates/wire_base/src/address.rt",
                 "/// Parses a prefix", "/// Parses no prefix"),
         changed("that has no `///` comment", "an item has no comment", "crates/rule_book/src/last.rt",
                 "/// Writes the last line", "// Writes the last line"),
@@ -476,6 +481,9 @@ BY_HAND = {
     "tools/adapters": "15 changes of ipnorm.lua, 10 of jq/, 4 of community-id, some of norm-comments and "
                       "plots/timeline",
 }
+
+# The checks that judge times.
+ALONE = ("system/hostile",)
 
 # The checks that take longest, so that none of them is left for the end.
 LONGEST = ("system/real_ends", "system/errors", "pages/commands", "tools/first_captures", "receivers/rivals",

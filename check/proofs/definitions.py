@@ -3,12 +3,11 @@ import glob
 import os
 import re
 
+from proofs.free_names import names_in_clause, names_in_definition
+
 TOP = os.path.dirname(os.path.dirname(os.path.dirname(os.path.abspath(__file__))))
 
 BEGINS = re.compile(r"(?:(?:abbrev|unfoldable) (?:pub )?|(?:pub )?record |(?:pub )?data )([^\s:(]+)")
-NAME = re.compile(r"[A-Za-z_][\w']*(?:\.[A-Za-z_][\w']*)*")
-BINDERS = [re.compile(r"[({]([\w' ]+?) :"), re.compile(r"λ \(?([\w' ]+?)(?: :|\.)"),
-           re.compile(r"let ([\w']+)(?: :| =)")]
 
 
 class Definition:
@@ -39,7 +38,9 @@ class Module:
 
     def __init__(self, crate, path):
         self.crate, self.path = crate, path
-        self.key = f"Rattle.{crate}.specs.{os.path.splitext(os.path.basename(path))[0]}"
+        name = os.path.splitext(path)[0].replace(os.sep, ".").removeprefix("crates.")
+        self.key = "Rattle." + name
+        self.is_working = ".specs.working." in self.key
         self.own, self.taken, self.aliases = {}, {}, {}
         with open(os.path.join(TOP, path), encoding="utf-8") as file:
             self.read(unindented(file.read().split("\n")))
@@ -69,11 +70,13 @@ class Module:
 
 def unindented(lines):
     """Returns the lines with those inside of `module _ .. where` moved to the left margin."""
-    inside, moved = False, []
+    depth, moved = 0, []
     for line in lines:
-        if line and not line.startswith(" "):
-            inside = line.startswith("module _")
-        moved.append(line.removeprefix("  ") if inside else line)
+        if line.strip():
+            depth = min(depth, (len(line) - len(line.lstrip())) // 2)
+        moved.append(line[2 * depth :])
+        if moved[-1].startswith("module _"):
+            depth += 1
     return moved
 
 
@@ -108,7 +111,8 @@ class Definitions:
 
     def __init__(self):
         self.modules = {}
-        for path in sorted(glob.glob(os.path.join(TOP, "crates", "*", "specs", "*.antt"))):
+        pattern = os.path.join(TOP, "crates", "*", "specs", "**", "*.antt")
+        for path in sorted(glob.glob(pattern, recursive=True)):
             at = os.path.relpath(path, TOP)
             if not at.endswith("/Lib.antt"):
                 module = Module(at.split(os.sep)[1], at)
@@ -133,34 +137,51 @@ class Definitions:
             return self.found(*module.taken[name])
         return None
 
-    def named_in(self, text, own, taken, aliases):
-        """Returns what a text names, in the order of first naming; names that it binds itself are
-        left out."""
-        bound = {name for binder in BINDERS for group in binder.findall(text) for name in group.split()}
-        named = []
-        for token in NAME.findall(text):
-            parts = token.split(".")
-            if parts[0] in aliases and len(parts) > 1:
-                found = self.found(aliases[parts[0]], parts[1])
-            elif parts[0] in bound:
-                continue
-            elif parts[0] in own:
-                found = own[parts[0]]
-            elif parts[0] in taken:
-                found = self.found(*taken[parts[0]])
-            else:
-                continue
-            if found and found not in named:
-                named.append(found)
-        return named
+    def all(self):
+        """Returns the definitions of all modules."""
+        found = [it for module in self.modules.values() for it in module.own.values()]
+        return list(dict.fromkeys(found))
+
+    def meant(self, token, own, taken, aliases):
+        """Returns what a name means, or None, and whether it is a constructor."""
+        first, _, rest = token.partition(".")
+        if first in aliases and rest:
+            key, name = aliases[first], rest.partition(".")[0]
+        elif first in own:
+            return own[first], own[first].name != first
+        elif first in taken:
+            key, name = taken[first]
+        else:
+            return None, False
+        found = self.found(key, name)
+        is_of_data = isinstance(found, Definition) and found.name != name
+        return found, is_of_data or key.endswith(".TheVariants")
+
+    def kinds(self, own, taken, aliases):
+        """Returns functions of a name: whether it is a constructor, and a member of a module."""
+
+        def is_member(token):
+            return token.partition(".")[0] in aliases and bool(self.meant(token, *scope)[0])
+
+        scope = own, taken, aliases
+        return lambda token: self.meant(token, *scope)[1], is_member
+
+    def named_in(self, text, own, taken, aliases, bound=()):
+        """Returns what a clause names, in the order of first naming; names that it binds itself,
+        and those in `bound`, are left out."""
+        scope = own, taken, aliases
+        names = names_in_clause(text, bound, self.kinds(*scope))
+        return [it for it in dict.fromkeys(self.meant(it, *scope)[0] for it in names) if it]
 
     def names_of(self, definition):
         """Returns the definitions that a definition names."""
         if isinstance(definition, Type):
             return []
         module = definition.module
-        text = "\n".join(definition.lines)
-        return [it for it in self.named_in(text, module.own, module.taken, module.aliases) if it is not definition]
+        scope = module.own, module.taken, module.aliases
+        names = names_in_definition(definition.name, definition.lines, self.kinds(*scope))
+        found = dict.fromkeys(self.meant(it, *scope)[0] for it in names)
+        return [it for it in found if it and it is not definition]
 
 
 class Type:

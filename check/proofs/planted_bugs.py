@@ -1,29 +1,25 @@
 """The wrong bodies that `check/proofs/edits --planted` tries: first those that docs/PROVED.md calls
-planted, and then those that the gate does not try, since others do with less time."""
+planted, and then those that the gate does not try, since others do with less time. A bug that is a
+must-fail edit refers to it."""
 
+import os
 from collections import namedtuple
+
+from lib.programs import TOP
 
 # The first word of a function is its crate.
 Bug = namedtuple("Bug", "what function file old new")
 
-WRITE_READ = """input.bytes).is_err() {
-        return Err(Failed);
-    }
-    Ok(())
-}
 
-/// Writes the frames of a record as they are."""
+def of_edit(what, function, name, old="", new=""):
+    """The bug of a must-fail edit of one line; `new` takes the place of `old` in what it writes."""
+    path = os.path.join(TOP, "crates", function.split("::")[0], "must-fail", name + ".edit")
+    with open(path, encoding="utf-8") as file:
+        file, line, wrong = (text.split(": ", 1)[1] for text in file.read().splitlines())
+    return Bug(what, function, file, line, wrong.replace(old, new))
 
-WRITE_TWICE = """input.bytes).is_err() {
-        return Err(Failed);
-    }
-    if write_record(capture, head, input.seconds, input.fraction, input.bytes).is_err() {
-        return Err(Failed);
-    }
-    Ok(())
-}
 
-/// Writes the frames of a record as they are."""
+WRITE_READ = "    write_record(capture, head, input.seconds, input.fraction, input.bytes)"
 
 PUT = """    put_parts(parts, payload, segment);
 """
@@ -43,12 +39,13 @@ BUGS = [
     Bug("the numbers of records and frames are exchanged", "rule_book::last::last_line", "src/last.rt",
         "line.part_number(records);\n            line.part_long_number(packets);",
         "line.part_long_number(packets);\n            line.part_number(records);"),
-    Bug("a record is written twice", "both_sides::cut::write_read", "src/cut.rt", WRITE_READ, WRITE_TWICE),
-    Bug("the second engine has the sides of the first", "both_sides::both::Both::open", "src/both.rt",
-        "exchanged.mirror = true;", "exchanged.mirror = false;"),
+    Bug("a record is written twice", "both_sides::cut::write_read", "src/cut.rt", WRITE_READ,
+        WRITE_READ + "?;\n" + WRITE_READ),
+    of_edit("the second engine has the sides of the first", "both_sides::both::Both::open",
+            "second_engine_has_the_sides_of_the_first"),
     Bug("every other frame is given to the second engine", "both_sides::both::Both::back", "src/both.rt",
         "self.had += 1;", "self.had += 2;"),
-    Bug("a held fragment is a packet that passes", "norm_engine::entries::tell", "src/entries.rt",
+    Bug("a held fragment is a packet that passes", "norm_engine::engine::tell", "src/engine.rt",
         "stopped(Some(side), Verdict::Hold, Rule::FHeld, entry),", "written(Some(side), entry),"),
     Bug("a fragment's offset is counted in 4 octets", "ipv4_codec::header::store_fields", "src/header.rt",
         "head.offset = 8 * u32", "head.offset = 4 * u32"),
@@ -61,17 +58,17 @@ BUGS = [
     Bug("neither a RST nor its probe goes out", "tcp_norm::state::TcpNorm::emit", "src/emit.rt",
         "put_probe(arrival, hops, Some(probe), out);\n",
         "put_probe(arrival, hops, Some(probe), out);\n                    out.clear();\n"),
-    Bug("the FIN is kept at the first octet of its segment", "era_state::interval::Interval::end_after",
-        "src/interval.rt", "if self.fin { Some(self.hi) }", "if self.fin { Some(self.lo) }"),
+    Bug("the FIN is kept at the first octet of its segment", "era_state::offset::Interval::end_after",
+        "src/offset.rt", "if self.fin { Some(self.hi) }", "if self.fin { Some(self.lo) }"),
     Bug("a low TTL is raised to `--hops`", "ip_rules::write::raised", "src/write.rt",
-        "head.ttl = hops + 1;", "head.ttl = hops;"),
+        "head.ttl.max(hops + 1)", "head.ttl.max(hops)"),
     Bug("a checksum is computed before the octets are written", "tcp_codec::write::write_segment", "src/write.rt",
         PUT + SUM, SUM + PUT),
     Bug("microseconds are read as nanoseconds", "pcapng_file::content::timed_says", "src/content.rt",
         "let each = if interface.nano { 1 } else { 1_000 };", "let each = if interface.nano { 1 } else { 1 };"),
     # Those that were must-fail edits, in crates of which the gate tries none: each paid another
     # check of its crate.
-    Bug("a fragment that differs is reported under another rule", "norm_engine::entries::tell", "src/entries.rt",
+    Bug("a fragment that differs is reported under another rule", "norm_engine::engine::tell", "src/engine.rt",
         "Decision::Drop(side, rule) => stopped(side, Verdict::Drop, rule, entry),",
         "Decision::Drop(side, rule) => stopped(side, Verdict::Drop, "
         "if rule == Rule::FClash { Rule::FEnd } else { rule }, entry),"),
@@ -99,11 +96,9 @@ BUGS = [
         "if first[..count] == SECTION[..] {", "if count == 4 && first[..count] != SECTION[..] {"),
 ]
 
-# `run` with one answer for all words; the gate tries 3 and 5 (crates/bridge_run/must-fail).
-WORDS_READ = "    let command = match read_words(alloc, words) {\n"
-
+# `run` with one answer for all words; the gate tries 3 and 5.
 BUGS += [
-    Bug("`run` always answers %d" % status, "bridge_run::runner::run", "src/runner.rt",
-        WORDS_READ, "    if words.len() < usize::MAX { return %d; }\n%s" % (status, WORDS_READ))
+    of_edit("`run` always answers %d" % status, "bridge_run::runner::run", "always_answers_3",
+            "return 3;", "return %d;" % status)
     for status in (2, 4, 6, 7)
 ]

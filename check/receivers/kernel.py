@@ -205,7 +205,8 @@ def take_answers(peer):
     packets = list(namespace.packets_from(peer.host.device))
     for octets in packets if peer.awaits_syn else []:
         tcp = tcp_of(octets)
-        if tcp is not None and tcp.flags & SYN and peer.era.iss is not None and key_of(octets, False)[:2] == (peer.outside, peer.era.key[1]):
+        if (tcp is not None and tcp.flags & SYN and peer.era.iss is not None
+            and key_of(octets, False)[:2] == (peer.outside, peer.era.key[1])):
             peer.awaits_syn, peer.shift, where = False, (tcp.seq - peer.era.iss) % 2**32, echo_at(octets)
             peer.echo = None if where is None else struct.unpack(">I", octets[where - 4:where])[0]
     return packets

@@ -46,7 +46,8 @@ def available(folder):
         else:
             done = subprocess.run(words, capture_output=True, text=True, check=False)
             there[name] = re.search(r"\d+(\.\d+)+", done.stdout + done.stderr)[0]
-    made = subprocess.run(["cc", "-O1", "-o", os.path.join(folder, "libnids"), os.path.join(HERE, "libnids.c"), "-lnids", "-lpcap"],
+    made = subprocess.run(["cc", "-O1", "-o", os.path.join(folder, "libnids"),
+                           os.path.join(HERE, "libnids.c"), "-lnids", "-lpcap"],
                           capture_output=True, text=True, check=False) if shutil.which("cc") else None
     if made is not None and made.returncode == 0:
         there["libnids"] = libnids_version()

@@ -18,7 +18,9 @@ ITSELF, ANY_ORDER, WITH_MONITOR, MONITORS, ANY = ("the kernel with itself, packe
                                                   "the kernel with itself, packets in any order", "the kernel with %s",
                                                   "two of the monitors", "any two")
 
-STACK_ITSELF, WITH_STACK, STACKS = "%s with itself, packets in any order", "the kernel with %s, packets in any order", "two of the other stacks, packets in any order"
+STACK_ITSELF, WITH_STACK, STACKS = ("%s with itself, packets in any order",
+                                    "the kernel with %s, packets in any order",
+                                    "two of the other stacks, packets in any order")
 
 
 def connections_of(attack, forwarded, routed):

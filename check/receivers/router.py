@@ -9,6 +9,7 @@ serves all. No time passes between records.
 
 import os
 import select
+import shutil
 import struct
 import subprocess
 import time
@@ -46,8 +47,8 @@ def strongest():
              "ip hdrlength != 5 drop",
              "ip protocol != { icmp, tcp, udp } drop",
              "ip ttl < 64 ip ttl set 64",
-             "ip protocol icmp icmp type != { echo-request, echo-reply, destination-unreachable, time-exceeded, parameter-problem } drop",
-             "ip protocol != tcp accept",
+             "ip protocol icmp icmp type != { echo-request, echo-reply, destination-unreachable, "
+             "time-exceeded, parameter-problem } drop", "ip protocol != tcp accept",
              "tcp doff < 5 drop",
              "tcp flags & (fin|syn|rst|ack) != %s drop" % LEGAL,
              "tcp flags & (syn|rst) != 0 ip length . tcp doff != { %s } drop" % bare,
@@ -87,6 +88,15 @@ SETTINGS = {
 }
 
 PROBE_OUTSIDE, PROBE_INSIDE = 0xE0000000 - 0x100, 0x0AFFFFFE
+
+
+def missing():
+    """Returns why there can be no router, or None."""
+    if shutil.which("nft") is None:
+        return "nft"
+    tried = subprocess.run(["unshare", "--net", "nft", "--check", "--file", "-"], input=RULES["strongest"], text=True,
+                           stdout=subprocess.DEVNULL, stderr=subprocess.DEVNULL, check=False)
+    return None if tried.returncode == 0 else "the kernel's nf_tables with connection tracking"
 
 
 def open_router(rules):

@@ -203,7 +203,8 @@ def reading_of(name, parts, one, run):
     if invented(one.era, run.packets, octets):
         return one, None, died, True
     how = run.how + (parts[5] or "")
-    return one, SimpleNamespace(receiver=name, order=run.order, octets=octets, ended=parts[4] is not None, how=how), died, False
+    return (one, SimpleNamespace(receiver=name, order=run.order, octets=octets,
+                                 ended=parts[4] is not None, how=how), died, False)
 
 
 def invented(era, packets, octets):

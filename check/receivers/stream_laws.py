@@ -382,7 +382,8 @@ def successors(watch):
     last = {}
     for era in sorted(watch.eras.values(), key=lambda era: era.number):
         before = last.get(era.key)
-        if before is not None and before.ended in ("idle", "evicted") and not era.syn and before.base is not None and era.base is not None:
+        if (before is not None and before.ended in ("idle", "evicted") and not era.syn
+                and before.base is not None and era.base is not None):
             yield before, era
         last[era.key] = era
 

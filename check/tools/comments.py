@@ -27,7 +27,8 @@ def commented(asked, folder, one):
 
 def comments_in(folder, path, *words):
     """The comments of each record, as tshark prints them."""
-    return run(["tshark", "-r", path, "-T", "fields", *words, "-e", "frame.comment"], folder).stdout.decode().splitlines()
+    return run(["tshark", "-r", path, "-T", "fields", *words, "-e", "frame.comment"],
+               folder).stdout.decode().splitlines()
 
 
 def classic(folder, path):
@@ -47,7 +48,8 @@ def lines_by_record(text):
         number, side, verdict, _, *rest = line.split()
         if not number.startswith("/"):
             records.append([])
-        records[-1].append((str(len(records)) + (number if number.startswith("/") else ""), side, verdict, [word for word in rest if word[0].isalpha()]))
+        records[-1].append((str(len(records)) + (number if number.startswith("/") else ""), side,
+                            verdict, [word for word in rest if word[0].isalpha()]))
     return records
 
 
@@ -57,7 +59,8 @@ def as_shown(comment):
     for line in comment.split("\\n") if comment else []:
         words = re.split(" (?:frames|given) ", line, maxsplit=1)[0].split()
         verdict = next(word for word in words if word in ("pass", "fix", "hold", "drop"))
-        lines.append((words[0], words[2], verdict, [word for word, then in zip(words, words[1:]) if then.startswith("(")]))
+        lines.append((words[0], words[2], verdict,
+                      [word for word, then in zip(words, words[1:]) if then.startswith("(")]))
     return lines
 
 
@@ -82,7 +85,8 @@ def test_comments(asked, folder):
         if other_records(one, before):
             one.report = write(os.path.join(folder, "other.txt"), before.text.encode())
             done, target = commented(asked, folder, one)
-            test.same("%s: report of another run: fails, and writes nothing" % one.name, (True, False), (done.returncode != 0, os.path.exists(target)))
+            test.same("%s: report of another run: fails, and writes nothing" % one.name,
+                      (True, False), (done.returncode != 0, os.path.exists(target)))
         before = one
     return test
 
@@ -93,14 +97,19 @@ def test_batches(asked, folder):
     if test.lacks("tshark", "editcap"):
         return test
     count = 13000
-    given = write(os.path.join(folder, "many.pcap"), capture_of([segment("> R 999", outside_port=number) for number in range(1, count + 1)]))
+    given = write(os.path.join(folder, "many.pcap"),
+                  capture_of([segment("> R 999", outside_port=number)
+                              for number in range(1, count + 1)]))
     lines = ["norm 2\n"] + ["%d in drop 0 T_COLD\n" % number for number in range(1, count + 1)] + ["end %d 0\n" % count]
     report = write(os.path.join(folder, "many.txt"), "".join(lines).encode())
-    one = type("Run", (), {"given": given, "out": write(os.path.join(folder, "none.pcap"), capture_of([])), "report": report})
+    one = type("Run", (),
+               {"given": given, "out": write(os.path.join(folder, "none.pcap"), capture_of([])),
+                "report": report})
     done, target = commented(asked, folder, one)
     shown = comments_in(folder, target)
     test.same("status", 0, done.returncode)
-    test.same("comments", [str(number) for number in range(1, count + 1)], [comment.split(" ", 1)[0] for comment in shown])
+    test.same("comments", [str(number) for number in range(1, count + 1)],
+              [comment.split(" ", 1)[0] for comment in shown])
     return test
 
 
@@ -109,14 +118,16 @@ def test_long(asked, folder):
     test = Test("norm-comments: a long comment")
     if test.lacks("tshark", "editcap"):
         return test
-    octets = capture_of([*opening(60000), segment("> PA 1000,5001 " + "a" * 30000), segment("> PA 1000,5001 " + "ab" * 15000)])
+    octets = capture_of([*opening(60000), segment("> PA 1000,5001 " + "a" * 30000),
+                         segment("> PA 1000,5001 " + "ab" * 15000)])
     one = normed(asked, folder, "long", write(os.path.join(folder, "long.pcap"), octets))
     done, target = commented(asked, folder, one)
     shown = comments_in(folder, target)
     test.same("status", 0, done.returncode)
     test.same("the report", True, "5 in fix 1 T_CLASH @1\n" in one.text)
     last = shown[-1] if shown else ""
-    test.same("the comment", (["", "", "", ""], True, 60003), (shown[:4], last.startswith("5 ") and last.endswith(" .."), len(last)))
+    test.same("the comment", (["", "", "", ""], True, 60003),
+              (shown[:4], last.startswith("5 ") and last.endswith(" .."), len(last)))
     return test
 
 
@@ -126,7 +137,8 @@ def test_kept(asked, folder):
     if test.lacks("tshark", "editcap"):
         return test
     given = os.path.join(folder, "kept.pcapng")
-    run(["editcap", "-F", "pcapng", "-a", "4:of record 4", "-a", "5:of record 5", os.path.join(TOP, "examples", "overlap.pcap"), given], folder)
+    run(["editcap", "-F", "pcapng", "-a", "4:of record 4", "-a", "5:of record 5",
+         os.path.join(TOP, "examples", "overlap.pcap"), given], folder)
     done, target = commented(asked, folder, normed(asked, folder, "kept", given))
     shown = comments_in(folder, target, "-E", "aggregator=|")
     test.same("status", 0, done.returncode)

@@ -37,7 +37,8 @@ class Test:
 def run(words, folder, **more):
     """Runs a program with its own home, so that no settings of the user matter."""
     env = dict(os.environ, HOME=folder, XDG_CONFIG_HOME=folder, LC_ALL="C.UTF-8", TZ="UTC")
-    return subprocess.run(words, stdout=subprocess.PIPE, stderr=subprocess.PIPE, env=env, timeout=300, check=False, **more)
+    return subprocess.run(words, stdout=subprocess.PIPE, stderr=subprocess.PIPE, env=env,
+                          timeout=300, check=False, **more)
 
 
 def write(path, octets):
@@ -51,7 +52,8 @@ def normed(asked, folder, name, given, options=(), prefixes=("10.0.0.0/8",)):
     out, report = os.path.join(folder, name + ".out.pcap"), os.path.join(folder, name + ".txt")
     done = run([asked.norm, "run", *options, given, out, *prefixes], folder)
     write(report, done.stdout)
-    return SimpleNamespace(name=name, given=given, out=out, report=report, text=done.stdout.decode("ascii"), status=done.returncode)
+    return SimpleNamespace(name=name, given=given, out=out, report=report,
+                           text=done.stdout.decode("ascii"), status=done.returncode)
 
 
 def other_records(one, other):
@@ -95,4 +97,6 @@ def random_runs(asked, folder, statuses=(0, 4)):
 def few_runs(asked, folder, one_of, *variants):
     """Runs on the examples, and one in this number of the random runs to the end that are asked
     for."""
-    return itertools.chain(example_runs(asked, folder, *variants), itertools.islice(random_runs(asked, folder, (0,)), max(1, asked.count // one_of)))
+    return itertools.chain(example_runs(asked, folder, *variants),
+                           itertools.islice(random_runs(asked, folder, (0,)),
+                                            max(1, asked.count // one_of)))

@@ -25,8 +25,17 @@ ROWS = []
 
 def row(test):
     """Keeps a test, which is given a Folder and returns nothing, or raises a Fault."""
+    test.needs = ()
     ROWS.append(test)
     return test
+
+
+def needing(*programs):
+    """Keeps what a test needs of the system."""
+    def keep(test):
+        test.needs = programs
+        return test
+    return keep
 
 
 class Folder:
@@ -124,6 +133,7 @@ def an_audit_that_says_no_fails(folder):
     folder.wants(1, "status 1", "audit no 1 plain")
 
 
+@needing("tcpdump")
 @row
 def a_report_too_large_is_judged_in_parts(folder):
     """Of a norm whose report has more than an audit reads, if it is not of a part."""
@@ -134,17 +144,14 @@ def a_report_too_large_is_judged_in_parts(folder):
     view = shutil.which("normview", path=folder.path_variable)
     small = "[ \"$(stat -c %%s \"$(eval echo \\${$#})\")\" -lt 67108864 ] && exec %s \"$@\"; exit 9" % view
     false_program(folder, "normview", small)
-    if shutil.which("tcpdump") is None:
-        return
     said = folder.wants(0, "its report is too large for an audit: in 2 parts", "1-of-2.pcap: status 0")
     if not folder.has("in-20260101-000000.pcap.parts/done"):
         raise Fault("the parts are not done:\n" + said)
 
 
+@needing("tcpdump")
 @row
 def hours_in_parts(folder):
-    if shutil.which("tcpdump") is None:
-        return
     folder.hours(overlap(), clean())
     folder.wants(11, "1-of-2.pcap: status 11", "contradictions 1", PARTS="2")
     if folder.wants(0, PARTS="2") != "":
@@ -217,10 +224,9 @@ def what_was_not_judged_is_not_removed(folder):
         raise Fault("it is removed")
 
 
+@needing("editcap")
 @row
 def a_cut_hour_is_repaired_and_fails(folder):
-    if shutil.which("editcap") is None:
-        return
     name = folder.hours(MAKERS["cut.pcap"](), clean())
     folder.wants(1, name + ": it ends in mid-record", name + ": status 0, end 26 26")
     folder.wants(0)
@@ -232,11 +238,10 @@ def malformed_variables(folder):
     folder.wants(2, "PARTS", PARTS="0")
 
 
+@needing("systemd-analyze")
 @row
 def what_the_unit_exposes(folder):
     """By systemd-analyze, where it can be run."""
-    if shutil.which("systemd-analyze") is None:
-        return
     unit = os.path.join(folder.path, "norm-hourly.service")
     with open(SERVICE, encoding="ascii") as file, open(unit, "w", encoding="ascii") as copy:
         copy.write("".join("ExecStart=/bin/true\n" if it.startswith("ExecStart=") else it for it in file))

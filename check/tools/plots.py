@@ -43,7 +43,8 @@ def begun(name):
 def compare_pictures(test, folder, one, name):
     with open(name + ".png", "rb") as file:
         test.same("%s: the PNG" % one.name, b"\x89PNG\r\n\x1a\n", file.read(8))
-    texts = ["".join(text.itertext()).strip() for text in xml.etree.ElementTree.parse(name + ".svg").iter("{http://www.w3.org/2000/svg}text")]
+    texts = ["".join(text.itertext()).strip() for text in
+             xml.etree.ElementTree.parse(name + ".svg").iter("{http://www.w3.org/2000/svg}text")]
     rules = set(re.findall(r"\b[A-Z]_[A-Z_]+", one.text))
     test.same("%s: rules in the SVG" % one.name, rules, {text for text in texts if re.fullmatch("[A-Z]_[A-Z_]+", text)})
     eras = set(re.findall(r"(?m)^\d.* \+(\d+)", one.text))
@@ -64,9 +65,11 @@ def compare_octets(test, folder, python, one, octets):
     test.same("%s: number of records" % one.name, len(records), len(fates))
     for record, fate in zip(records, fates):
         test.same("%s: octets of record %d" % (one.name, record["record"]), record["length"], sum(fate.values()))
-    for era in (line for line in lines if line["event"] == "era" and line["by"] == "first" and "F_DONE" not in line["rules"]):
+    for era in (line for line in lines if line["event"] == "era" and line["by"] == "first"
+                and "F_DONE" not in line["rules"]):
         own = [fate for record, fate in zip(records, fates) if record["era"] == era["era"] and record["side"] == "in"]
-        test.same("%s: octets of era %d" % (one.name, era["era"]), era["sent"], sum(fate.get("unchanged", 0) + fate.get("replaced", 0) for fate in own))
+        test.same("%s: octets of era %d" % (one.name, era["era"]), era["sent"],
+                  sum(fate.get("unchanged", 0) + fate.get("replaced", 0) for fate in own))
 
 
 def test_timeline(asked, folder):
@@ -82,9 +85,11 @@ def test_timeline(asked, folder):
         compare_octets(test, folder, python, one, octets)
         os.remove(name + ".png")
     other = [line for line in one.text.splitlines(True) if not line.startswith(("end", "/"))]
-    octets = run([*view, one.given, one.out, "/dev/stdin"], folder, input="".join(other[:-1] + ["end %d 0\n" % (len(other) - 2)]).encode()).stdout
+    octets = run([*view, one.given, one.out, "/dev/stdin"], folder,
+                 input="".join(other[:-1] + ["end %d 0\n" % (len(other) - 2)]).encode()).stdout
     done = run([python, PROGRAM, name], folder, input=octets)
-    test.same("report of another run: fails, and draws nothing", (True, False), (done.returncode != 0, os.path.exists(name + ".png")))
+    test.same("report of another run: fails, and draws nothing", (True, False),
+              (done.returncode != 0, os.path.exists(name + ".png")))
     return test
 
 
@@ -93,7 +98,8 @@ FATES_BY_HAND = [
     ("a segment in whose place a probe is sent", [segment("> PA 1000,5001 abcd")], [{"dropped": 4}]),
     ("replaced octets", [*opening(), segment("> PA 1002,5001 cdef"), segment("> PA 1000,5001 abXXgh")],
      [{"unchanged": 4, "replaced": 0, "cut off": 0}, {"unchanged": 2, "replaced": 4, "cut off": 0}]),
-    ("octets past the window", [*opening(4), segment("> PA 1000,5001 abcdef")], [{"unchanged": 5, "replaced": 0, "cut off": 1}]),
+    ("octets past the window", [*opening(4), segment("> PA 1000,5001 abcdef")],
+     [{"unchanged": 5, "replaced": 0, "cut off": 1}]),
     ("a reset outside of the window", [*opening(), segment("> R 900")], [{"dropped": 0}]),
 ]
 

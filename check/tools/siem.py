@@ -48,8 +48,11 @@ def like(pattern):
 # reference), Zeek as its JSON logs and conn.log have it.
 EVE = [
     ("timestamp", like(r"\d{4}-\d\d-\d\dT\d\d:\d\d:\d\d\.\d{6}[+-]\d{4}"), None),
-    ("event_type", one_of("norm", "anomaly"), None), ("pcap_cnt", lambda value: type(value) is int and value > 0, None), ("pcap_filename", is_text, None),
-    ("src_ip", is_address, "src_ip"), ("dest_ip", is_address, "dest_ip"), ("src_port", is_port, "src_port"), ("dest_port", is_port, "dest_port"),
+    ("event_type", one_of("norm", "anomaly"), None),
+    ("pcap_cnt", lambda value: type(value) is int and value > 0, None),
+    ("pcap_filename", is_text, None),
+    ("src_ip", is_address, "src_ip"), ("dest_ip", is_address, "dest_ip"),
+    ("src_port", is_port, "src_port"), ("dest_port", is_port, "dest_port"),
     ("proto", like("TCP|UDP|ICMP|[0-9]+"), "proto"),
     ("flow_id", lambda value: type(value) is int and 0 < value < 2**53, "era"),
 ]
@@ -57,23 +60,29 @@ EVE = [
 ECS = [
     ("@timestamp", like(r"\d{4}-\d\d-\d\dT\d\d:\d\d:\d\d\.\d{9}Z"), None),
     ("ecs.version", like(r"8\.\d+\.\d+"), None),
-    ("event.kind", one_of("alert", "asset", "enrichment", "event", "metric", "state", "pipeline_error", "signal"), None),
+    ("event.kind", one_of("alert", "asset", "enrichment", "event", "metric", "state",
+                          "pipeline_error", "signal"), None),
     ("event.category", some_of("network"), None),
     # The types that are expected beside the category `network`.
     ("event.type", some_of("access", "allowed", "connection", "denied", "end", "info", "protocol", "start"), None),
     ("event.outcome", one_of("success", "failure", "unknown"), None),
-    ("event.action", is_text, None), ("event.module", is_text, None), ("event.dataset", is_text, None), ("observer.type", is_text, None),
-    ("observer.product", is_text, None), ("related.ip", lambda value: type(value) is list and all(map(is_address, value)), "src_ip"),
-    ("source.ip", is_address, "src_ip"), ("source.port", is_port, "src_port"), ("destination.ip", is_address, "dest_ip"),
-    ("destination.port", is_port, "dest_port"),
+    ("event.action", is_text, None), ("event.module", is_text, None),
+    ("event.dataset", is_text, None), ("observer.type", is_text, None),
+    ("observer.product", is_text, None),
+    ("related.ip", lambda value: type(value) is list and all(map(is_address, value)), "src_ip"),
+    ("source.ip", is_address, "src_ip"), ("source.port", is_port, "src_port"),
+    ("destination.ip", is_address, "dest_ip"), ("destination.port", is_port, "dest_port"),
     ("network.direction", one_of("inbound", "outbound", "unknown"), None),
     ("network.type", one_of("ipv4"), "src_ip"), ("network.iana_number", like("[0-9]+"), "proto"),
     ("rule.name", is_text, "rules"),
 ]
 
 ZEEK = [
-    ("_path", one_of("norm", "norm_conn"), None), ("ts", lambda value: type(value) in (int, float), None), ("uid", like("N[0-9a-f]{5}[ESR][0-9]+"), None),
-    ("id.orig_h", is_address, "src_ip"), ("id.resp_h", is_address, "dest_ip"), ("id.orig_p", is_port, "src_port icmp_type"), ("id.resp_p", is_port, "dest_port icmp_type"),
+    ("_path", one_of("norm", "norm_conn"), None),
+    ("ts", lambda value: type(value) in (int, float), None),
+    ("uid", like("N[0-9a-f]{5}[ESR][0-9]+"), None),
+    ("id.orig_h", is_address, "src_ip"), ("id.resp_h", is_address, "dest_ip"),
+    ("id.orig_p", is_port, "src_port icmp_type"), ("id.resp_p", is_port, "dest_port icmp_type"),
     ("proto", like("tcp|udp|icmp|[0-9]+"), "proto"), ("is_orig", lambda value: type(value) is bool, None),
 ]
 
@@ -99,7 +108,8 @@ def compare_fields(test, name, fields, event, line):
     for path, right, needed in fields:
         value = value_at(event, path)
         wanted = needed is None or any(line[name] not in (None, []) for name in needed.split())
-        test.same("%s: %s of record %d" % (name, path, line["record"]), (wanted, True), (value is not None, value is None or right(value)))
+        test.same("%s: %s of record %d" % (name, path, line["record"]), (wanted, True),
+                  (value is not None, value is None or right(value)))
 
 
 # What a line of normview is in each format
@@ -110,14 +120,17 @@ def clash_of(line):
 
 def eve_values(line, _):
     number = None if line["era"] is None else NUMBER * 2**33 + line["era"] + 2**32 * (line["by"] == "second")
-    return {"timestamp": line["time"][:26] + "+0000", "src_ip": line["src_ip"], "src_port": line["src_port"], "dest_ip": line["dest_ip"],
-            "dest_port": line["dest_port"], "proto": line["proto"] and line["proto"].upper(), "flow_id": number, "pcap_cnt": line["record"],
+    return {"timestamp": line["time"][:26] + "+0000", "src_ip": line["src_ip"],
+            "src_port": line["src_port"], "dest_ip": line["dest_ip"],
+            "dest_port": line["dest_port"], "proto": line["proto"] and line["proto"].upper(),
+            "flow_id": number, "pcap_cnt": line["record"],
             "pcap_filename": NAME, "icmp_type": line["icmp_type"], "icmp_code": line["icmp_code"]}
 
 
 def eve_own(line):
     """The fields of a norm event, and those of the anomaly next to it."""
-    own = [{"event_type": "norm", "norm.record": line["record"], "norm.frames_out": line["frames_out"], "norm.given": line["given"],
+    own = [{"event_type": "norm", "norm.record": line["record"],
+            "norm.frames_out": line["frames_out"], "norm.given": line["given"],
             "norm.verdict": line["verdict"], "norm.rules": line["rules"], "norm.changes": line["changes"]}]
     return own + [{"event_type": "anomaly", "anomaly": ANOMALIES[rule]} for rule in [clash_of(line)] if rule]
 
@@ -126,12 +139,15 @@ def ecs_values(line, _):
     inwards = {"in": "inbound", "out": "outbound", None: "unknown"}
     turned = {"in": "outbound", "out": "inbound", None: "unknown"}
     clash = clash_of(line)
-    return {"@timestamp": line["time"], "source.ip": line["src_ip"], "source.port": line["src_port"], "destination.ip": line["dest_ip"],
+    return {"@timestamp": line["time"], "source.ip": line["src_ip"],
+            "source.port": line["src_port"], "destination.ip": line["dest_ip"],
             "destination.port": line["dest_port"], "event.action": line["verdict"], "event.sequence": line["record"],
-            "event.kind": "alert" if clash else "event", "rule.name": clash or next(iter(line["rules"]), None), "file.path": NAME,
+            "event.kind": "alert" if clash else "event",
+            "rule.name": clash or next(iter(line["rules"]), None), "file.path": NAME,
             "event.outcome": {"drop": "failure", "hold": "unknown"}.get(line["verdict"], "success"),
             "network.transport": line["proto"] if line["proto"] in ("tcp", "udp", "icmp") else None,
-            "network.direction": (inwards if line["by"] == "first" else turned)[line["side"]], "norm.changes": line["changes"], "norm.rules": line["rules"]}
+            "network.direction": (inwards if line["by"] == "first" else turned)[line["side"]],
+            "norm.changes": line["changes"], "norm.rules": line["rules"]}
 
 
 def zeek_uid(mark, number):
@@ -149,16 +165,21 @@ def zeek_values(line, origins):
     for one in line["ended"]:
         origins.pop((line["by"], one["era"]), None)
     mark = "R" if line["era"] is None else "S" if line["by"] == "second" else "E"
-    return {"_path": "norm", "id.orig_h": orig[0], "id.orig_p": orig[1], "id.resp_h": resp[0], "id.resp_p": resp[1], "is_orig": not turned,
-            "verdict": line["verdict"], "rules": line["rules"], "record": line["record"], "frames_out": line["frames_out"], "ended": line["ended"],
+    return {"_path": "norm", "id.orig_h": orig[0], "id.orig_p": orig[1], "id.resp_h": resp[0],
+            "id.resp_p": resp[1], "is_orig": not turned,
+            "verdict": line["verdict"], "rules": line["rules"], "record": line["record"],
+            "frames_out": line["frames_out"], "ended": line["ended"],
             "uid": zeek_uid(mark, line["record"] if mark == "R" else line["era"])}
 
 
 def zeek_era(era):
     outside, inside = [(era[side + "_ip"], era[side + "_port"]) for side in ("outside", "inside")]
     orig, resp = (inside, outside) if era["opened"] == "out" else (outside, inside)
-    return {"_path": "norm_conn", "uid": zeek_uid("S" if era["by"] == "second" else "E", era["era"]), "id.orig_h": orig[0], "id.orig_p": orig[1],
-            "id.resp_h": resp[0], "id.resp_p": resp[1], "proto": "tcp", "sent": era["sent"], "octets": era["octets"], "end": era["end"],
+    return {"_path": "norm_conn",
+            "uid": zeek_uid("S" if era["by"] == "second" else "E", era["era"]),
+            "id.orig_h": orig[0], "id.orig_p": orig[1],
+            "id.resp_h": resp[0], "id.resp_p": resp[1], "proto": "tcp", "sent": era["sent"],
+            "octets": era["octets"], "end": era["end"],
             "records": era["records"], "rules": era["rules"]}
 
 
@@ -222,7 +243,8 @@ def compare_formats(test, folder, run_name, octets):
                 compare_fields(test, "%s, %s" % (run_name, form), fields, event, line)
                 compare_values(test, "%s, %s: record %d" % (run_name, form, line["record"]), {**wanted, **own}, event)
             if form == "zeek":
-                test.same("%s: ts of record %d" % (run_name, line["record"]), True, abs(event["ts"] - seconds_of(line["time"])) < 1e-6)
+                test.same("%s: ts of record %d" % (run_name, line["record"]), True,
+                          abs(event["ts"] - seconds_of(line["time"])) < 1e-6)
         for era in eras if form == "zeek" else []:
             compare_values(test, "%s, zeek: era %d" % (run_name, era["era"]), zeek_era(era), next(left, {}))
 
@@ -231,7 +253,9 @@ def talkers(lines):
     hosts = {}
     for line in lines:
         if line["src_ip"] is not None and line["by"] == "first":
-            host = hosts.setdefault(line["src_ip"], {"host": line["src_ip"], "records": 0, "dropped": 0, "changed": 0, "octets": 0})
+            host = hosts.setdefault(line["src_ip"],
+                                    {"host": line["src_ip"], "records": 0, "dropped": 0,
+                                     "changed": 0, "octets": 0})
             host["records"] += 1
             host["dropped"] += line["verdict"] == "drop"
             host["changed"] += line["verdict"] == "fix"
@@ -249,7 +273,8 @@ def test_events(asked, folder):
             octets, status = viewed(asked, folder, one)
             test.same("%s: report of another run: normview's status" % one.name, True, status != 0)
             for form, _, _ in FORMATS:
-                test.same("%s: report of another run: the status of %s" % (one.name, form), True, events_of(folder, form, octets)[1] != 0)
+                test.same("%s: report of another run: the status of %s" % (one.name, form), True,
+                          events_of(folder, form, octets)[1] != 0)
         before = one
     return test
 
@@ -295,11 +320,14 @@ def module():
 def test_vectors(_, folder):
     test = Test("community-id: published vectors")
     for source, destination, protocol, ports, seed, wanted in VECTORS:
-        test.same("%s > %s" % (source, destination), wanted, module().community_id(source, destination, protocol, ports, seed))
+        test.same("%s > %s" % (source, destination), wanted,
+                  module().community_id(source, destination, protocol, ports, seed))
         names = ("icmp_type", "icmp_code") if protocol in (1, 58) else ("src_port", "dest_port")
-        event = {"src_ip": source, "dest_ip": destination, "proto": str(protocol), names[0]: ports[0], names[1]: ports[1]}
+        event = {"src_ip": source, "dest_ip": destination, "proto": str(protocol),
+                 names[0]: ports[0], names[1]: ports[1]}
         done = run([PROGRAM, str(seed)], folder, input=json.dumps(event).encode())
-        test.same("%s > %s, as an object" % (source, destination), dict(event, community_id=wanted), json.loads(done.stdout))
+        test.same("%s > %s, as an object" % (source, destination), dict(event, community_id=wanted),
+                  json.loads(done.stdout))
     return test
 
 
@@ -318,13 +346,15 @@ def test_community(asked, folder):
         return test
     for one in few_runs(asked, folder, ONE_OF):
         octets = whole_view(test, asked, folder, one)
-        shown = run(["tshark", "--enable-protocol", "communityid", "-r", one.given, "-T", "fields", "-E", "occurrence=f", "-e", "communityid"], folder)
+        shown = run(["tshark", "--enable-protocol", "communityid", "-r", one.given, "-T", "fields",
+                     "-E", "occurrence=f", "-e", "communityid"], folder)
         ids = shown.stdout.decode().splitlines()
         events = [json.loads(line) for line in run([PROGRAM], folder, input=octets).stdout.splitlines()]
         test.same("%s: number of objects" % one.name, len(octets.splitlines()), len(events))
         for event in events:
             if event["event"] == "record" and event["by"] == "first" and is_whole_message(event):
-                test.same("%s: record %d" % (one.name, event["record"]), ids[event["record"] - 1], event.get("community_id"))
+                test.same("%s: record %d" % (one.name, event["record"]), ids[event["record"] - 1],
+                          event.get("community_id"))
     return test
 
 

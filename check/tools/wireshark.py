@@ -7,6 +7,7 @@ import itertools
 import os
 import re
 import shutil
+import textwrap
 
 from tools.common import CONTRIB, Test, example_runs, random_runs, run, write
 from model.formats import UDP
@@ -25,7 +26,8 @@ EXPERTS = ("dropped", "rewritten", "clash", "mismatch")
 
 WARN, NOTE, ERROR = "6291456", "4194304", "8388608"
 
-FIELDS = ["ipnorm.record", "ipnorm.out", "ipnorm.error"] + ["ipnorm." + name for name in OF_LINE] + ["ipnorm.second." + name for name in OF_LINE]
+FIELDS = (["ipnorm.record", "ipnorm.out", "ipnorm.error"] + ["ipnorm." + name for name in OF_LINE]
+          + ["ipnorm.second." + name for name in OF_LINE])
 
 # Expert information, of which that of norm is the last: other protocols have some too.
 EXPERT_FIELDS = ["ipnorm." + name for name in EXPERTS] + ["_ws.expert.severity", "_ws.expert.message"]
@@ -39,7 +41,9 @@ def sentences():
 
 
 def lua_table():
-    return "".join('    %s = "%s",\n' % pair for pair in sentences().items())
+    """The lines of the table; a sentence of over 90 characters is on two."""
+    return "".join('    %s = "%s",\n' % (rule, ' "\n        .. "'.join(textwrap.wrap(sentence, 90)))
+                   for rule, sentence in sentences().items())
 
 
 def lua_text():
@@ -55,9 +59,10 @@ def write_sentences():
 
 def test_sentences(_, __):
     test = Test("wireshark: sentences of the rules")
-    for wanted, found in zip(lua_table().splitlines(), TABLE.search(lua_text())[2].splitlines()):
-        test.same(LUA, wanted, found)
-    test.same("%s: number of rules" % LUA, len(sentences()), TABLE.search(lua_text())[2].count("\n"))
+    wanted, found = lua_table().splitlines(), TABLE.search(lua_text())[2].splitlines()
+    for ours, theirs in zip(wanted, found):
+        test.same(LUA, ours, theirs)
+    test.same("%s: number of lines" % LUA, len(wanted), len(found))
     return test
 
 
@@ -71,9 +76,11 @@ def values(lines):
     ended = [word[1:].split(":") for word in rest if word[0] == "-"]
     known = sentences()
     told = [line for line in words if line[2] != "pass"]
-    columns = {"side": [line[1] for line in told], "verdict": [line[2] for line in words], "frames": [line[3] for line in told], "rule": rules,
+    columns = {"side": [line[1] for line in told], "verdict": [line[2] for line in words],
+               "frames": [line[3] for line in told], "rule": rules,
                "sentence": [known[rule] for rule in rules], "era": [word[1:] for word in rest if word[0] == "@"],
-               "begun": [word[1:] for word in rest if word[0] == "+"], "ended": [parts[0] for parts in ended], "reason": [parts[1] for parts in ended],
+               "begun": [word[1:] for word in rest if word[0] == "+"],
+               "ended": [parts[0] for parts in ended], "reason": [parts[1] for parts in ended],
                "octets": [parts[2] for parts in ended if len(parts) > 2]}
     return ["|".join(columns[name]) for name in OF_LINE]
 
@@ -87,7 +94,8 @@ def expert_of(lines):
         for rule in [word for word in rest if word[0].isalpha()]:
             kind = "clash" if rule in ("T_CLASH", "F_CLASH") else {"drop": "dropped", "fix": "rewritten"}.get(verdict)
             if kind:
-                found.append((kind, {"dropped": WARN, "rewritten": NOTE, "clash": ERROR}[kind], "%s: %s" % (rule, sentences()[rule])))
+                found.append((kind, {"dropped": WARN, "rewritten": NOTE, "clash": ERROR}[kind],
+                              "%s: %s" % (rule, sentences()[rule])))
     return found
 
 
@@ -108,7 +116,8 @@ def rows_of_in(text):
     for first, *behind in grouped(text):
         written = sum(int(line.split()[3]) for line in (behind if both else [first]))
         shown_out = written and first.split()[2] != "pass"
-        rows.append([first.split()[0], str(frames + 1) if shown_out else "", ""] + values([first]) + values(behind) + [expert_of([first, *behind])])
+        rows.append([first.split()[0], str(frames + 1) if shown_out else "", ""] + values([first])
+                    + values(behind) + [expert_of([first, *behind])])
         frames += written
     return rows
 
@@ -118,7 +127,8 @@ def rows_of_out(text):
     both = text.startswith("norm 2 both\n")
     for first, *behind in grouped(text):
         for line in (behind if both else [first]):
-            row = [first.split()[0], "", ""] + values([first]) + values([line] if both else []) + [expert_of([first] + ([line] if both else []))]
+            row = ([first.split()[0], "", ""] + values([first]) + values([line] if both else [])
+                   + [expert_of([first] + ([line] if both else []))])
             rows += [row] * int(line.split()[3])
     return rows
 
@@ -126,10 +136,12 @@ def rows_of_out(text):
 def shown(folder, capture, report, kind, *more, **given):
     """The fields of each frame, as tshark prints them, what it says, and its status; in one pass,
     or in two with -2 among `more`."""
-    words = ["tshark", "-X", "lua_script:" + LUA, "-o", "ipnorm.capture:" + kind, "-r", capture, "-T", "fields", "-E", "aggregator=|", *more]
+    words = ["tshark", "-X", "lua_script:" + LUA, "-o", "ipnorm.capture:" + kind, "-r", capture,
+             "-T", "fields", "-E", "aggregator=|", *more]
     words += ["-o", "ipnorm.report:" + report] if report else []
     done = run(words + [word for field in FIELDS + EXPERT_FIELDS for word in ("-e", field)], folder, **given)
-    return [row_of(line.split("\t")) for line in done.stdout.decode().splitlines()], done.stderr.decode(), done.returncode
+    return ([row_of(line.split("\t")) for line in done.stdout.decode().splitlines()],
+            done.stderr.decode(), done.returncode)
 
 
 def row_of(cells):
@@ -137,7 +149,7 @@ def row_of(cells):
     fields, kinds, (severities, messages) = cells[:len(FIELDS)], cells[len(FIELDS):-2], cells[-2:]
     count = sum(len(cell.split("|")) for cell in kinds if cell)
     own = list(zip(severities.split("|"), messages.split("|")))[-count:] if count else []
-    names = {severity: name for severity, name in ((WARN, "dropped"), (NOTE, "rewritten"), (ERROR, "clash" if kinds[2] else "mismatch"))}
+    names = {WARN: "dropped", NOTE: "rewritten", ERROR: "clash" if kinds[2] else "mismatch"}
     found = [(names.get(severity), severity, message) for severity, message in own]
     counts = {name: len(cell.split("|")) if cell else 0 for name, cell in zip(EXPERTS, kinds)}
     same = counts == {name: sum(one[0] == name for one in found) for name in EXPERTS}
@@ -174,7 +186,8 @@ def compare_other(test, folder, name, capture, report, kind):
     for passes in ([], ["-2"]):
         found, said, status = shown(folder, capture, report, kind, *passes)
         test.same("%s %s: it has frames" % (name, passes), True, bool(found))
-        test.same("%s %s: it ends with 2 and says why" % (name, passes), (2, True), (status, "ipnorm: " + report in said))
+        test.same("%s %s: it ends with 2 and says why" % (name, passes), (2, True),
+                  (status, "ipnorm: " + report in said))
         faults = [bool(row[2]) for row in found]
         test.same("%s %s: an error stays" % (name, passes), sorted(faults), faults)
         for number, row in enumerate(found, 1):
@@ -198,7 +211,8 @@ def test_fields(asked, folder):
             if number % 4 == 1 and rows(one.text) and len(rows(before)) != len(rows(one.text)):
                 compare_other(test, folder, "%s, report of another run, %s" % (one.name, kind), capture, other, kind)
         before = one.text
-    test.same("runs that tshark itself reads otherwise, one of fifty at most: %s" % test.odd, True, len(test.odd) * 50 <= max(50, asked.count))
+    test.same("runs that tshark itself reads otherwise, one of fifty at most: %s" % test.odd, True,
+              len(test.odd) * 50 <= max(50, asked.count))
     return test
 
 
@@ -248,19 +262,22 @@ def test_reports(_, folder):
     if test.lacks("tshark"):
         return test
     for kind, (name, at, octets, text) in [("IN", row) for row in OTHERS] + [("OUT", row) for row in OTHERS_OF_OUT]:
-        capture, report = write(os.path.join(folder, "some.pcap"), octets), write(os.path.join(folder, "some.txt"), text.encode())
+        capture, report = (write(os.path.join(folder, "some.pcap"), octets),
+                           write(os.path.join(folder, "some.txt"), text.encode()))
         compare_other(test, folder, name, capture, report, kind)
         faults = [number for number, row in enumerate(shown(folder, capture, report, kind)[0], 1) if row[2]]
         test.same("%s: first frame with the error in one pass" % name, at, min(faults, default=0))
     for name, octets, text in FIT:
-        capture, report = write(os.path.join(folder, "some.pcap"), octets), write(os.path.join(folder, "some.txt"), text.encode())
+        capture, report = (write(os.path.join(folder, "some.pcap"), octets),
+                           write(os.path.join(folder, "some.txt"), text.encode()))
         compare_rows(test, name, rows_of_in(text), shown(folder, capture, report, "IN")[0])
         if shutil.which("editcap"):
             run(["editcap", "-F", "pcapng", capture, capture + "ng"], folder)
             compare_rows(test, name + ", as pcapng", rows_of_in(text), shown(folder, capture + "ng", report, "IN")[0])
     compare_other(test, folder, "no such report", capture, os.path.join(folder, "none.txt"), "IN")
     found, said, status = shown(folder, capture, None, "IN")
-    test.same("neither preference nor report beside the capture", ([""] * len(FIELDS) + [[]], False, 0), (found[0], "Lua" in said, status))
+    test.same("neither preference nor report beside the capture",
+              ([""] * len(FIELDS) + [[]], False, 0), (found[0], "Lua" in said, status))
     compare_rows(test, "a pipe", rows_of_in(text), shown(folder, capture, "/dev/stdin", "IN", input=text.encode())[0])
     write(capture + ".norm", text.encode())
     compare_rows(test, "the report beside the capture", rows_of_in(text), shown(folder, capture, None, "IN")[0])
@@ -282,7 +299,8 @@ def filters():
     profile = os.path.join(CONTRIB, "wireshark", "profile")
     table = text_of(PAGE).split("| Display filter |")[1].split("\n\n")[0]
     buttons = re.findall(r'^"TRUE","[^"]*","([^"]*)"', text_of(profile, "dfilter_buttons"), re.MULTILINE)
-    return (re.findall(r"(?m)^\| `(.*?)` \|", table) + re.findall(r"(?m)^@.*?@(.*?)@\[", text_of(profile, "colorfilters"))
+    return (re.findall(r"(?m)^\| `(.*?)` \|", table)
+            + re.findall(r"(?m)^@.*?@(.*?)@\[", text_of(profile, "colorfilters"))
             + [text.replace("\\x22", '"') for text in buttons])
 
 
@@ -290,7 +308,8 @@ def test_filters(_, folder):
     test = Test("wireshark: filters of the page and the profile")
     if test.lacks("tshark"):
         return test
-    named = set(re.findall(r"ipnorm\.[a-z]+", text_of(PAGE))) - {"ipnorm.lua", "ipnorm.report", "ipnorm.capture", "ipnorm.second"}
+    named = set(re.findall(r"ipnorm\.[a-z]+", text_of(PAGE)))
+    named -= {"ipnorm.lua", "ipnorm.report", "ipnorm.capture", "ipnorm.second"}
     fields = {field for field in FIELDS + EXPERT_FIELDS if field.startswith("ipnorm.") and "second" not in field}
     test.same("the fields of the page", fields, named)
     capture = write(os.path.join(folder, "some.pcap"), TWO)

@@ -77,7 +77,10 @@ func stack_start(tuple *C.struct_tuple, listens C.int) {
 	must(host.SetTransportProtocolOption(tcp.ProtocolNumber, &sack))
 	link = channel.New(4096, 1500, "")
 	must(host.CreateNIC(1, link))
-	inside := tcpip.ProtocolAddress{Protocol: ipv4.ProtocolNumber, AddressWithPrefix: address(ends.inside, 0).Addr.WithPrefix()}
+	inside := tcpip.ProtocolAddress{
+		Protocol:          ipv4.ProtocolNumber,
+		AddressWithPrefix: address(ends.inside, 0).Addr.WithPrefix(),
+	}
 	must(host.AddProtocolAddress(1, inside, stack.AddressProperties{}))
 	host.SetRouteTable([]tcpip.Route{{Destination: header.IPv4EmptySubnet, NIC: 1}})
 	if listens != 0 {
