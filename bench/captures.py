@@ -88,7 +88,9 @@ def scaled_syn(source, sport, target, dport, seq, ack, flags, scale):
     options = bytes([3, 3, scale, 1])
     words = 0x6000 | flags
     total = source + target + TCP + 24 + sport + dport + seq + ack + words + 65535 + 0x0303 + (scale << 8 | 1)
-    return ip_head(source, target, TCP, 24) + struct.pack(">HHIIHHHH", sport, dport, seq, ack, words, 65535, checksum(total), 0) + options
+    return (ip_head(source, target, TCP, 24)
+            + struct.pack(">HHIIHHHH", sport, dport, seq, ack, words, 65535, checksum(total), 0)
+            + options)
 
 
 def udp_packet(source, sport, target, dport, place, size, number=0, ttl=64):
@@ -113,7 +115,8 @@ class Connection:
         self.latest = None
 
     def inward(self, seq, ack, flags, payload=b"", payload_sum=0):
-        return tcp_packet(self.outside, self.sport, self.inside, 80, seq % 2**32, ack, flags, 65535, payload, payload_sum)
+        return tcp_packet(self.outside, self.sport, self.inside, 80, seq % 2**32, ack, flags, 65535,
+                          payload, payload_sum)
 
     def outward(self, seq, ack, flags, window=65535):
         return tcp_packet(self.inside, 80, self.outside, self.sport, seq, ack % 2**32, flags, window)
@@ -155,7 +158,8 @@ def ethernet(path, records, chance, _size):
         low = number % 4 == 3
         source, target = (inside, outside) if not low and chance.random() < 0.5 else (outside, inside)
         size = chance.randrange(36, 1373)
-        capture.add(link + udp_packet(source, 4000, target, 53, number * 31, size, number % 65536, chance.randrange(1, 31) if low else 64))
+        capture.add(link + udp_packet(source, 4000, target, 53, number * 31, size, number % 65536,
+                                      chance.randrange(1, 31) if low else 64))
     return capture.close()
 
 
@@ -217,7 +221,8 @@ def fragments(path, records, chance, _size):
             message = udp_packet(source, 4000, target, 53, number * 31, size)[20:]
             cut = size // 3 // 8 * 8
             bounds = [(0, cut, MORE), (cut, 2 * cut, MORE), (2 * cut, len(message), 0)]
-            waiting.append([ip_head(source, target, UDP, end - begin, number % 65536, more | begin // 8) + message[begin:end] for begin, end, more in bounds])
+            waiting.append([ip_head(source, target, UDP, end - begin, number % 65536, more | begin // 8)
+                            + message[begin:end] for begin, end, more in bounds])
         for turn in range(3):
             for pieces in waiting:
                 capture.add(pieces[turn])
@@ -229,13 +234,14 @@ def lone(path, records, chance, _size):
     capture = Capture(path)
     payload, _ = octets_at(0, 80)
     for _ in range(records):
-        capture.add(ip_head(0x64400000 + chance.randrange(2**20), 0x0A000001, UDP, 80, chance.randrange(65536), MORE) + payload)
+        capture.add(ip_head(0x64400000 + chance.randrange(2**20), 0x0A000001, UDP, 80,
+                            chance.randrange(65536), MORE) + payload)
     return capture.close()
 
 
 def stray_syn(chance):
-    return tcp_packet(0x65000000 + chance.randrange(2**24), 1024 + chance.randrange(60000), 0x0A000001 + chance.randrange(200), 80,
-                      chance.randrange(2**32), 0, SYN)
+    return tcp_packet(0x65000000 + chance.randrange(2**24), 1024 + chance.randrange(60000),
+                      0x0A000001 + chance.randrange(200), 80, chance.randrange(2**32), 0, SYN)
 
 
 def syns(path, records, chance, flows):
@@ -371,7 +377,8 @@ def drops(path, records, chance, _size):
             good = ip_head(outside, inside, 47, 80) + good[20:]
         elif kind == 4:
             words = 0x4600 + 100 + (64 << 8 | TCP) + outside + inside + 0x8303 + 0x0400
-            good = IP_HEAD.pack(0x46, 0, 100, 0, 0, 64, TCP, checksum(words), outside, inside) + bytes([131, 3, 4, 0]) + good[24:]
+            good = (IP_HEAD.pack(0x46, 0, 100, 0, 0, 64, TCP, checksum(words), outside, inside)
+                    + bytes([131, 3, 4, 0]) + good[24:])
         elif kind == 5:
             good = tcp_packet(outside, 4000, inside, 80, number, 0, SYN | FIN, 65535, payload, payload_sum)
         elif kind == 6:

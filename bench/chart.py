@@ -12,7 +12,8 @@ from pages.svg import Picture  # noqa: E402
 WIDTH, LEFT, RIGHT = 820, 330, 50
 
 # The programs, with their labels and colours.
-PROGRAMS = (("norm", "norm", "#1d4ed8"), ("relay", "C program (bench/relay)", "#94a3b8"), ("tcpdump", "tcpdump -r -w", "#fcd34d"))
+PROGRAMS = (("norm", "norm", "#1d4ed8"), ("relay", "C program (bench/relay)", "#94a3b8"),
+            ("tcpdump", "tcpdump -r -w", "#fcd34d"))
 
 BAR, GAP = 10, 9
 
@@ -40,7 +41,8 @@ KINDS = {
 def figures(results, note):
     """Returns what the chart shows: for each kind the millions of records a second of each program,
     to three digits."""
-    rates = lambda result: {name: float("%.3g" % (result.records / result.runs[name][0] / 1e6)) for name, *_ in PROGRAMS if result.runs.get(name)}
+    rates = lambda result: {name: float("%.3g" % (result.records / result.runs[name][0] / 1e6))
+                            for name, *_ in PROGRAMS if result.runs.get(name)}
     return {"note": note, "kinds": {result.kind: rates(result) for result in results}}
 
 
@@ -50,7 +52,8 @@ def read(text):
 
 def drawn(shown):
     """Draws the chart."""
-    picture = Picture(WIDTH, "Speed", "Millions of records a second of norm, a C program and tcpdump for each kind of capture")
+    picture = Picture(WIDTH, "Speed", "Millions of records a second of norm, a C program and "
+                                      "tcpdump for each kind of capture")
     picture.add("metadata", "<![CDATA[%s]]>" % json.dumps(shown))
     picture.text(16, 26, "Millions of records a second", 16, font_weight="bold")
     picture.text(16, 44, shown["note"], 10.5, fill="#64748b")
@@ -70,7 +73,8 @@ def drawn(shown):
         for colour, rate, name in bars:
             length = max(rate / most * (WIDTH - LEFT - RIGHT), 1)
             picture.rect(LEFT, y, length, BAR - 1, colour)
-            picture.text(LEFT + length + 5, y + BAR - 2, "%.3g" % rate, 8.5, fill="#1e293b" if name == "norm" else "#64748b")
+            picture.text(LEFT + length + 5, y + BAR - 2, "%.3g" % rate, 8.5,
+                         fill="#1e293b" if name == "norm" else "#64748b")
             y += BAR
         y += GAP
     picture.line(LEFT, 80, LEFT, y - GAP + 4, "#94a3b8")

@@ -31,7 +31,8 @@
 
 enum { BATCH = 32, LONGEST = 1514, HOSTS = 256, BUCKETS = 1 << 20, WAIT = 100000000 };
 
-static const uint32_t OUTSIDE = 0xc6336403, INSIDE = 0x0a010000, MAGIC = 0x6e6f726d;   /* 198.51.100.3, 10.1.0.0 and on */
+/* OUTSIDE is 198.51.100.3, INSIDE 10.1.0.0 and on. */
+static const uint32_t OUTSIDE = 0xc6336403, INSIDE = 0x0a010000, MAGIC = 0x6e6f726d;
 
 /* Addresses of no host, so that the kernels of both hosts drop a frame once it is read: outside,
  * inside. */
@@ -62,7 +63,8 @@ static uint64_t now(void) {
 
 static int opened(int protocol) {
     int made = socket(AF_PACKET, SOCK_RAW, htons(protocol)), size = 1 << 28, yes = 1;
-    struct sockaddr_ll at = {.sll_family = AF_PACKET, .sll_protocol = htons(protocol), .sll_ifindex = if_nametoindex("eth0")};
+    struct sockaddr_ll at = {.sll_family = AF_PACKET, .sll_protocol = htons(protocol),
+                             .sll_ifindex = if_nametoindex("eth0")};
     if (made < 0 || bind(made, (struct sockaddr *)&at, sizeof at) < 0) fail("eth0");
     setsockopt(made, SOL_SOCKET, protocol ? SO_RCVBUFFORCE : SO_SNDBUFFORCE, &size, sizeof size);
     setsockopt(made, SOL_PACKET, PACKET_QDISC_BYPASS, &yes, sizeof yes);
@@ -141,7 +143,8 @@ static void *send_all(void *given) {
         if (due > total) due = total;
         if (due <= way->sent) {
             uint64_t next = begun + way->sent * 1e9 / way->rate;
-            clock_nanosleep(CLOCK_MONOTONIC, TIMER_ABSTIME, &(struct timespec){next / 1000000000, next % 1000000000}, NULL);
+            clock_nanosleep(CLOCK_MONOTONIC, TIMER_ABSTIME,
+                            &(struct timespec){next / 1000000000, next % 1000000000}, NULL);
             continue;
         }
         int count = due - way->sent < BATCH ? due - way->sent : BATCH;
@@ -207,7 +210,8 @@ static void *reflect(void *given) {
             memcpy(kept, frames[i] + 26, 4), memcpy(frames[i] + 26, frames[i] + 30, 4), memcpy(frames[i] + 30, kept, 4);
             parts_back[back++] = (struct iovec){frames[i], messages[i].msg_len};
         }
-        for (int at = 0, gone; at < back && (gone = sendmmsg(way->to->sender, answers + at, back - at, 0)) > 0; at += gone) {}
+        for (int at = 0, gone; at < back &&
+             (gone = sendmmsg(way->to->sender, answers + at, back - at, 0)) > 0; at += gone) {}
     }
     return NULL;
 }
@@ -224,13 +228,16 @@ int main(int count, char **words) {
     struct end outside, inside;
     struct way ways[2];
     pthread_t senders[2], takers[2], mirror;
-    int trip = !strcmp(words[3], "trip"), both = !strcmp(words[3], "both"), number = both ? 2 : 1, length = atoi(words[4]);
+    int trip = !strcmp(words[3], "trip"), both = !strcmp(words[3], "both");
+    int number = both ? 2 : 1, length = atoi(words[4]);
     if (length < 64 || length > LONGEST) return 2;
     open_end(&outside, words[1]);
     open_end(&inside, words[2]);
     for (int i = 0; i < number; i++) {
         int inwards = both ? !i : strcmp(words[3], "out") != 0;
-        ways[i] = (struct way){.from = inwards ? &outside : &inside, .to = inwards ? &inside : &outside, .back = trip ? &outside : NULL,
+        ways[i] = (struct way){.from = inwards ? &outside : &inside,
+                               .to = inwards ? &inside : &outside,
+                               .back = trip ? &outside : NULL,
                                .inwards = inwards, .length = length, .rate = atof(words[5]), .seconds = atof(words[6]),
                                .times = calloc(BUCKETS, sizeof(uint32_t))};
     }
@@ -239,7 +246,8 @@ int main(int count, char **words) {
     for (int i = 0; i < number; i++) pthread_create(&senders[i], NULL, send_all, &ways[i]);
     for (int i = 0; i < number; i++) pthread_join(senders[i], NULL), pthread_join(takers[i], NULL);
     for (int i = 0; i < number; i++)
-        printf("%s %llu %llu %.1f %.1f %.1f\n", ways[i].inwards ? "in" : "out", (unsigned long long)ways[i].sent, (unsigned long long)ways[i].received,
+        printf("%s %llu %llu %.1f %.1f %.1f\n", ways[i].inwards ? "in" : "out",
+               (unsigned long long)ways[i].sent, (unsigned long long)ways[i].received,
                percentile(&ways[i], 0.5), percentile(&ways[i], 0.99), percentile(&ways[i], 0.999));
     return 0;
 }

@@ -23,6 +23,8 @@ int main(int count, char **words) {
     }
     if (child < 0 || wait4(child, &status, 0, &usage) != child) return 1;
     clock_gettime(CLOCK_MONOTONIC, &ended);
-    fprintf(stderr, "%.6f %ld\n", (double)(ended.tv_sec - begun.tv_sec) + (double)(ended.tv_nsec - begun.tv_nsec) / 1e9, usage.ru_maxrss);
+    double seconds = (double)(ended.tv_sec - begun.tv_sec) +
+                     (double)(ended.tv_nsec - begun.tv_nsec) / 1e9;
+    fprintf(stderr, "%.6f %ld\n", seconds, usage.ru_maxrss);
     return WIFEXITED(status) ? WEXITSTATUS(status) : 1;
 }

@@ -112,7 +112,8 @@ static bool settle(struct pool *pool, struct chain *c, uint64_t lo, uint64_t hi,
     bool changed = false;
     while (lo < hi) {
         uint64_t end = (lo / CELL + 1) * CELL < hi ? (lo / CELL + 1) * CELL : hi;
-        changed |= settle_piece(c, cell_for(pool, c, lo / CELL), (unsigned)(lo % CELL), (unsigned)(end - lo / CELL * CELL), octets);
+        changed |= settle_piece(c, cell_for(pool, c, lo / CELL), (unsigned)(lo % CELL),
+                                (unsigned)(end - lo / CELL * CELL), octets);
         octets += end - lo;
         lo = end;
     }

@@ -51,7 +51,9 @@ static uint32_t *bucket_of(uint32_t outside, uint32_t inside, uint32_t ports) {
 
 static uint32_t find(uint32_t outside, uint32_t inside, uint32_t ports) {
     uint32_t id = *bucket_of(outside, inside, ports);
-    while (id != NONE && (flows[id].outside != outside || flows[id].inside != inside || flows[id].ports != ports)) id = flows[id].next;
+    while (id != NONE && (flows[id].outside != outside || flows[id].inside != inside ||
+                          flows[id].ports != ports))
+        id = flows[id].next;
     return id;
 }
 
@@ -141,7 +143,8 @@ static int8_t scale_in(const uint8_t *p, const uint8_t *end) {
 
 static bool legal(uint8_t flags) {
     flags &= FIN | SYN | RST | ACK;
-    return flags == SYN || flags == (SYN | ACK) || flags == ACK || flags == (FIN | ACK) || flags == RST || flags == (RST | ACK);
+    return flags == SYN || flags == (SYN | ACK) || flags == ACK || flags == (FIN | ACK) ||
+           flags == RST || flags == (RST | ACK);
 }
 
 /* The offset of a sequence number in the stream, next to what is acknowledged. */
@@ -236,15 +239,19 @@ static void come_stream(struct fate *fate, struct packet *p, const struct segmen
     struct flow *f = &flows[id];
     int64_t from = offset_of(f, s->seq), to = from + s->length;
     uint64_t last = f->has_end && f->end < f->edge + 1 ? f->end : f->edge + 1;
-    uint64_t lo = from > (int64_t)f->acked ? (uint64_t)from : f->acked, hi = to < (int64_t)last ? (to > 0 ? (uint64_t)to : 0) : last;
+    uint64_t lo = from > (int64_t)f->acked ? (uint64_t)from : f->acked;
+    uint64_t hi = to < (int64_t)last ? (to > 0 ? (uint64_t)to : 0) : last;
     uint64_t highest = f->top > f->acked ? f->top : f->acked;
-    bool fin = s->flags & FIN, kept = fin && (f->has_end ? to == (int64_t)f->end : to >= (int64_t)highest && to <= (int64_t)f->edge);
+    bool fin = s->flags & FIN;
+    bool kept = fin && (f->has_end ? to == (int64_t)f->end
+                                   : to >= (int64_t)highest && to <= (int64_t)f->edge);
     if (hi < lo) hi = lo;
     fate->era = f->number;
     if (!fits(&streams, &f->kept, lo, hi)) { drop(fate, "T_ROOM"); return; }
     uint8_t *octets = s->payload + (lo < hi ? (int64_t)lo - from : 0);
     bool clash = settle(&streams, &f->kept, lo, hi, octets), before = s->length && from < (int64_t)f->acked;
-    bool past = s->length && to > (int64_t)f->edge + 1, behind = (s->length && f->has_end && to > (int64_t)f->end) || (fin && !kept);
+    bool past = s->length && to > (int64_t)f->edge + 1;
+    bool behind = (s->length && f->has_end && to > (int64_t)f->end) || (fin && !kept);
     if (before) mend(fate, "T_OLD");
     if (past) mend(fate, "T_WINDOW");
     if (behind) mend(fate, "T_END");
@@ -264,7 +271,8 @@ static void come_stream(struct fate *fate, struct packet *p, const struct segmen
     touch(id, now);
 }
 
-static void come_cold(struct fate *fate, struct packet *p, const struct segment *s, uint32_t ports, uint32_t now, uint8_t *second) {
+static void come_cold(struct fate *fate, struct packet *p, const struct segment *s, uint32_t ports,
+                      uint32_t now, uint8_t *second) {
     if (s->flags & RST || (s->flags & (SYN | ACK)) == (SYN | ACK)) { drop(fate, "T_COLD"); return; }
     if (!(s->flags & SYN)) {
         mend(fate, "C_PROBE");
@@ -285,7 +293,8 @@ static void come_cold(struct fate *fate, struct packet *p, const struct segment 
 }
 
 /* An inbound SYN of a flow that exists. */
-static void come_call(struct fate *fate, struct packet *p, const struct segment *s, uint32_t id, uint32_t now, uint8_t *second) {
+static void come_call(struct fate *fate, struct packet *p, const struct segment *s, uint32_t id,
+                      uint32_t now, uint8_t *second) {
     struct flow *f = &flows[id];
     uint32_t number = f->number, ports = f->ports;
     fate->era = number;
@@ -305,10 +314,13 @@ static void come_call(struct fate *fate, struct packet *p, const struct segment 
     touch(id, now);
 }
 
-static void come_reset(struct fate *fate, struct packet *p, const struct segment *s, uint32_t id, uint32_t now, uint8_t *second) {
+static void come_reset(struct fate *fate, struct packet *p, const struct segment *s, uint32_t id,
+                       uint32_t now, uint8_t *second) {
     struct flow *f = &flows[id];
     int64_t place = offset_of(f, s->seq);
-    bool awaited = f->state == CALLED ? s->flags & ACK && s->ack == f->iss + 1 : place >= (int64_t)f->acked && place <= (int64_t)next_place(f);
+    bool awaited = f->state == CALLED
+        ? s->flags & ACK && s->ack == f->iss + 1
+        : place >= (int64_t)f->acked && place <= (int64_t)next_place(f);
     fate->era = f->number;
     if (!awaited) { drop(fate, "T_RST"); return; }
     if (f->has_sent) {

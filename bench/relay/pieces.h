@@ -48,7 +48,8 @@ static void forget_old(uint32_t now) {
 static uint32_t begin_datagram(uint32_t source, uint32_t target, uint32_t mark, uint32_t now) {
     uint32_t id = free_datagram, *bucket = datagram_bucket(source, target, mark);
     free_datagram = datagrams[id].next;
-    datagrams[id] = (struct datagram){.source = source, .target = target, .mark = mark, .next = *bucket, .younger = NONE, .older = youngest,
+    datagrams[id] = (struct datagram){.source = source, .target = target, .mark = mark,
+                                      .next = *bucket, .younger = NONE, .older = youngest,
                                       .since = now, .kept = NO_CELLS};
     *bucket = id;
     if (youngest == NONE) oldest = id; else datagrams[youngest].younger = id;
@@ -60,14 +61,17 @@ static uint32_t begin_datagram(uint32_t source, uint32_t target, uint32_t mark, 
 /* Takes a fragment: it is held or dropped, or its datagram is complete and replaces it. */
 static bool join(struct fate *fate, struct packet *p, uint32_t now) {
     uint8_t *head = p->octets;
-    uint32_t from = get16(head + 6) % 8192 * 8, to = from + (uint32_t)p->size, mark = (uint32_t)head[9] << 16 | get16(head + 4);
+    uint32_t from = get16(head + 6) % 8192 * 8, to = from + (uint32_t)p->size;
+    uint32_t mark = (uint32_t)head[9] << 16 | get16(head + 4);
     bool more = get16(head + 6) & 0x2000;
     if (from > 0 && get16(head + 6) & 0x4000) { drop(fate, "F_DF"); return false; }
     if (p->size == 0) { drop(fate, "F_EMPTY"); return false; }
     if (more && p->size % 8) { drop(fate, "F_ALIGN"); return false; }
     if (to > 65515) { drop(fate, "F_BIG"); return false; }
     uint32_t source = get32(head + 12), target = get32(head + 16), id = *datagram_bucket(source, target, mark);
-    while (id != NONE && (datagrams[id].source != source || datagrams[id].target != target || datagrams[id].mark != mark)) id = datagrams[id].next;
+    while (id != NONE && (datagrams[id].source != source || datagrams[id].target != target ||
+                          datagrams[id].mark != mark))
+        id = datagrams[id].next;
     if (id == NONE && held == datagram_limit) { drop(fate, "F_MANY"); return false; }
     if (!fits(&pieces, id == NONE ? &NO_CELLS : &datagrams[id].kept, from, to)) { drop(fate, "F_ROOM"); return false; }
     if (id == NONE) id = begin_datagram(source, target, mark, now);

@@ -182,7 +182,9 @@ int main(int count, char **words) {
         if (!strcmp(words[at], "--flows")) flow_count = (uint32_t)atol(words[at + 1]);
         else if (!strcmp(words[at], "--cells")) cell_count = (uint32_t)atol(words[at + 1]);
     }
-    if (count - at != 3 || sscanf(words[at + 2], "%u.%u.%u.%u/%u", &a, &b, &c, &d, &length) != 5 || length > 32) return 2;
+    if (count - at != 3 ||
+        sscanf(words[at + 2], "%u.%u.%u.%u/%u", &a, &b, &c, &d, &length) != 5 || length > 32)
+        return 2;
     mask = length ? UINT32_MAX << (32 - length) : 0;
     prefix = (a << 24 | b << 16 | c << 8 | d) & mask;
     open_flows(flow_count, cell_count);
