@@ -9,7 +9,8 @@ from .words import words_of
 
 RED, YELLOW, GREEN, BOLD = "31", "33", "32", "1"
 
-MEANINGS = {"contradictions": "octets that differ from those first sent", "differs": "some hosts may read these otherwise",
+MEANINGS = {"contradictions": "octets that differ from those first sent",
+            "differs": "some hosts may read these otherwise",
             "noise": "segments without payload that are dropped, mostly scans"}
 
 VERDICTS = {"failed": (RED, "not finished"),

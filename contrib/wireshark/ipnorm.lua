@@ -42,7 +42,8 @@ local SENTENCES = {
     M_SHORT = "an ICMP message has fewer than 8 octets",
     M_SUM = "the ICMP checksum is wrong",
     M_TYPE = "the ICMP type is not 0, 3, 8, 11, 12, 13 or 14",
-    M_QUOTE = "an inbound ICMP error quotes no packet from a trusted to an untrusted address, or a segment without a live era",
+    M_QUOTE = "an inbound ICMP error quotes no packet from a trusted to an untrusted address, or a "
+        .. "segment without a live era",
     T_SHORT = "a segment has fewer than 20 octets",
     T_HLEN = "the data offset is below 5 words or longer than the segment",
     T_SUM = "the TCP checksum is wrong",
@@ -78,7 +79,8 @@ local SENTENCES = {
     -- end of rules
 }
 
-local SIDES, VERDICTS = { ["in"] = true, ["out"] = true, ["-"] = true }, { pass = true, fix = true, hold = true, drop = true }
+local SIDES = { ["in"] = true, ["out"] = true, ["-"] = true }
+local VERDICTS = { pass = true, fix = true, hold = true, drop = true }
 
 -- IP protocols of the rules by the first letter of their name.
 local PROTOCOLS = { T = 6, C = 6, U = 17, M = 1 }
@@ -90,8 +92,10 @@ local CLASHES = { T_CLASH = true, F_CLASH = true }
 -- octets and lines of the report that are read ahead.
 local MARKED, MOST_LINES, OCTETS, BLOCK, AHEAD, NONE = 512, 20000, 78, 65536, 256, {}
 
-ipnorm.prefs.report = Pref.string("Report", "", "The report of the run; if empty, the file beside the capture with its name and .norm (Linux)")
-ipnorm.prefs.capture = Pref.enum("The capture is", 0, "IN: what norm read; OUT: what it wrote", { { 1, "IN", 0 }, { 2, "OUT", 1 } }, true)
+ipnorm.prefs.report = Pref.string("Report", "",
+    "The report of the run; if empty, the file beside the capture with its name and .norm (Linux)")
+ipnorm.prefs.capture = Pref.enum("The capture is", 0, "IN: what norm read; OUT: what it wrote",
+    { { 1, "IN", 0 }, { 2, "OUT", 1 } }, true)
 
 -- The fields of a line of the report.
 local function line_fields(prefix, engine)
@@ -124,12 +128,15 @@ ipnorm.fields = all
 local experts = {
     drop = ProtoExpert.new("ipnorm.dropped", "not written", expert.group.PROTOCOL, expert.severity.WARN),
     fix = ProtoExpert.new("ipnorm.rewritten", "rewritten", expert.group.PROTOCOL, expert.severity.NOTE),
-    clash = ProtoExpert.new("ipnorm.clash", "octets that differ from those first sent", expert.group.SECURITY, expert.severity.ERROR),
-    mismatch = ProtoExpert.new("ipnorm.mismatch", "report of another run", expert.group.PROTOCOL, expert.severity.ERROR),
+    clash = ProtoExpert.new("ipnorm.clash", "octets that differ from those first sent",
+        expert.group.SECURITY, expert.severity.ERROR),
+    mismatch = ProtoExpert.new("ipnorm.mismatch", "report of another run",
+        expert.group.PROTOCOL, expert.severity.ERROR),
 }
 ipnorm.experts = { experts.drop, experts.fix, experts.clash, experts.mismatch }
 -- Methods by their own names: a look-up through the object costs as much as the call.
-local add, generated, info, referenced = TreeItem.add, TreeItem.set_generated, TreeItem.add_proto_expert_info, TreeItem.referenced
+local add, generated = TreeItem.add, TreeItem.set_generated
+local info, referenced = TreeItem.add_proto_expert_info, TreeItem.referenced
 local raw, length = Tvb.raw, Tvb.len
 local byte, sub, find = string.byte, string.sub, string.find
 
@@ -225,7 +232,8 @@ local function read_ahead(run)
         local _, last, number, rest = find(run.block, "^(/?%d+)( [^\n]*)\n", at)
         if last then
             count, at = count + 1, last + 1
-            numbers[count], lines[count], offsets[count + 1] = tonumber(number) or number, known_parts(run, rest), run.start + last
+            numbers[count], lines[count] = tonumber(number) or number, known_parts(run, rest)
+            offsets[count + 1] = run.start + last
         elseif count > 0 or find(run.block, "\n", at, true) or not read_more(run, at) then
             break
         else
@@ -267,7 +275,8 @@ end
 local function next_record(run)
     local count = run.number
     if count == #run.marks * MARKED then
-        table.insert(run.marks, { number = count, before = run.before + run.written, high = run.high, offset = offset_of(run), line = run.line })
+        table.insert(run.marks, { number = count, before = run.before + run.written, high = run.high,
+            offset = offset_of(run), line = run.line })
     end
     local number, parts = next_line(run)
     run.number, run.before = count + 1, run.before + run.written
@@ -390,7 +399,8 @@ end
 
 -- Returns that the report's number of records or frames differs from the capture's.
 local function of_another(run)
-    return ("%s is of another run: it has %d %s"):format(run.path, run.out and run.frames or run.records, run.out and "frames of OUT" or "records")
+    return ("%s is of another run: it has %d %s"):format(run.path,
+        run.out and run.frames or run.records, run.out and "frames of OUT" or "records")
 end
 
 -- Returns what is wrong with the report after the capture was read, or nil.
@@ -438,7 +448,8 @@ local function packet_of(run, tvb, pinfo, side)
     local ports = whole and octets:sub(behind + 1, behind + 4) or ""
     local wire = whole and words == 5 and octets:sub(at + 13, at + 24)
     if side == "out" then
-        return kind, octets:sub(at + 17, at + 20) .. octets:sub(at + 13, at + 16) .. ports:sub(3, 4) .. ports:sub(1, 2), wire
+        return kind, octets:sub(at + 17, at + 20) .. octets:sub(at + 13, at + 16)
+            .. ports:sub(3, 4) .. ports:sub(1, 2), wire
     end
     return kind, octets:sub(at + 13, at + 20) .. ports, wire
 end
@@ -448,7 +459,8 @@ end
 local function contradicts(run, tvb, pinfo)
     local parts, at = run.parts, run.ethernet and 14 or 0
     local octets = parts.wire and length(tvb) >= at + 24 and raw(tvb, at, 24)
-    if not parts.protocol or (octets and sub(octets, 13) == parts.wire and byte(octets, 10) == 6 and byte(octets) == 0x45) then
+    if not parts.protocol
+        or (octets and sub(octets, 13) == parts.wire and byte(octets, 10) == 6 and byte(octets) == 0x45) then
         return false
     end
     local kind, ends, wire = packet_of(run, tvb, pinfo, parts.side)
