@@ -13,6 +13,6 @@ written_of contents (Ok behind) = contents behind.writer
 written_of contents (Err error) = None
 
 -- The octets in the buffer; none if there is no writer.
-abbrev pub buffered_of : {W E : Type 0} → Result (WriteBehind W) E → List ℕ
-buffered_of (Ok behind) = octets_waiting behind
-buffered_of (Err error) = []
+abbrev pub buffered_behind : {W E : Type 0} → Result (WriteBehind W) E → List ℕ
+buffered_behind (Ok behind) = octets_waiting behind
+buffered_behind (Err error) = []

@@ -24,9 +24,8 @@ pub trait Source {
     fn faults(&self) -> u64
         ensures { result ≡ fault_count self.now };
 
-    /// Returns whether the next call may wait for the outside. False by default and for octets in
-    /// memory; a `BufferedSource` returns whether its read buffer is empty. No clause depends on
-    /// it.
+    /// Returns whether the next call may wait for the outside. False by default; a `BufferedSource`
+    /// with a reader returns whether its read buffer is empty. No clause of a run depends on it.
     fn may_wait(&self) -> bool {
         false
     }

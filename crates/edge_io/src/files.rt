@@ -1,10 +1,12 @@
 //! A source and sinks over files and standard output.
-ghost use Rattle.std.specs.Prelude.{◌≡◌, ◌<◌, ◌≤◌, ◌↔◌, [], None, true, false, is_some, is_ok, length, option_and_then, IfOk, OnOk, OnErr, IsErr, IsSome};
+ghost use Rattle.std.specs.Prelude.{◌≡◌, ◌<◌, ◌≤◌, ◌↔◌, ◌+◌, ◌++◌, [], None, true, false, is_some, is_ok, length, take, option_and_then, IfOk, IsTrue, OnOk, OnErr, IsOk, IsErr, IsSome};
 ghost use Rattle.std.specs.Result.{result_ok};
 ghost use Rattle.std.specs.Io.KnownBytes.{Appends, Keeps};
 ghost use Rattle.edge_io.specs.FaultCounts.{HasCause, next_count};
-ghost use Rattle.edge_io.specs.OutsideEnds.{OutsideEnd, OutsideSink, octets_of};
-ghost use Rattle.edge_io.specs.WriteBehind.{written_of, buffered_of};
+ghost use Rattle.edge_io.specs.KnownOctets.{Fetches};
+ghost use Rattle.edge_io.specs.OutsideEnds.{OutsideSource, OutsideSink, octets_left_of, octets_held_of};
+ghost use Rattle.edge_io.specs.ReadAhead.{unread_of, buffered_ahead};
+ghost use Rattle.edge_io.specs.WriteBehind.{written_of, buffered_behind};
 
 mod read_ahead;
 mod write_behind;
@@ -40,18 +42,22 @@ fn there<T>(end: Option<T>) -> io::Result<T>
     }
 }
 
-/// A reader outside the program, with a read buffer. Its octets are not known.
+/// A reader outside the program, with a read buffer. Its octets are known if the reader's are.
 #[derive(Drop)]
-pub struct BufferedSource<R> {
+pub struct BufferedSource<R: Read> {
     /// The reader, or why there is none.
     ahead: io::Result<ReadAhead<R>>,
     faults: u64,
 }
 
-impl<R> Model for BufferedSource<R> {
-    ghost Value = { OutsideEnd };
+impl<R: Read> Model for BufferedSource<R> {
+    ghost Value = { OutsideSource };
 
-    ghost view = { λ s. record { is_there = is_ok s.ahead; faults = s.faults } };
+    ghost view = { λ s. record {
+      outside = record { is_there = is_ok s.ahead; faults = s.faults };
+      buffered = buffered_ahead s.ahead;
+      unread = unread_of R.remaining s.ahead;
+    } };
 
     ghost invariant = { λ s. 0 < s.faults → IfOk s.ahead (λ ahead. IsSome ahead.last_error) };
 }
@@ -59,15 +65,23 @@ impl<R> Model for BufferedSource<R> {
 impl<R: Read + Drop> BufferedSource<R> {
     /// Returns a source over this reader. Without a reader every call fails.
     pub fn over(end: Option<R>) -> BufferedSource<R>
-        ensures { result ≡ record { is_there = is_some end; faults = 0 } }
+        ensures { result ≡ record {
+          outside = record { is_there = is_some end; faults = 0 };
+          buffered = [];
+          unread = option_and_then R.remaining end;
+        } }
     {
         BufferedSource::opened(there(end))
     }
 
-    /// Returns a source over the reader that was opened. If the opening failed, every call fails by
-    /// its error.
+    /// Returns a source over the reader that was opened. If the opening failed, every call fails,
+    /// and `last_error` returns its error.
     pub fn opened(end: io::Result<R>) -> BufferedSource<R>
-        ensures { result ≡ record { is_there = is_ok end; faults = 0 } }
+        ensures { result ≡ record {
+          outside = record { is_there = is_ok end; faults = 0 };
+          buffered = [];
+          unread = option_and_then R.remaining (result_ok end);
+        } }
     {
         BufferedSource {
             ahead: end.map(ReadAhead::new),
@@ -77,7 +91,7 @@ impl<R: Read + Drop> BufferedSource<R> {
 
     /// Returns the error of the last call that failed.
     pub fn last_error(&self) -> Option<io::Error>
-        ensures { IsSome result ↔ 0 < self.now.faults }
+        ensures { IsSome result ↔ 0 < self.now.outside.faults }
     {
         if self.faults == 0 {
             return None;
@@ -90,18 +104,20 @@ impl<R: Read + Drop> BufferedSource<R> {
 }
 
 impl<R: Read + Drop> Source for BufferedSource<R> {
-    ghost left = { λ _. None };
+    ghost left = { octets_left_of };
 
-    ghost fault_count = { λ s. s.faults };
+    ghost fault_count = { λ s. s.outside.faults };
 
     /// Moves buffered octets to the front of `buf`; reads only if none are buffered.
     fn fetch(&mut self, buf: &mut [u8]) -> Result<usize, Failed>
-        ensures within { IfOk result (λ n. n ≤ length buf.new) }
-        ensures cause { HasCause self.old.faults self.new.faults result }
-        ensures over_none { self.old.is_there ≡ false → IsErr result }
-        ensures ok { OnOk result (self.new ≡ self.old) }
-        ensures failed { OnErr result (self.new ≡ record self.old {
-          faults = next_count self.old.faults;
+        ensures octets { Fetches (octets_left_of self.old) (octets_left_of self.new) result buf.new }
+        ensures buffered { 0 < length self.old.buffered → (self.new.unread ≡ self.old.unread)
+            × IfOk result (λ n. self.old.buffered ≡ take n buf.new ++ self.new.buffered) }
+        ensures cause { HasCause self.old.outside.faults self.new.outside.faults result }
+        ensures over_none { self.old.outside.is_there ≡ false → IsErr result }
+        ensures ok { OnOk result (self.new.outside ≡ self.old.outside) }
+        ensures failed { OnErr result (self.new.outside ≡ record self.old.outside {
+          faults = next_count self.old.outside.faults;
         }) }
     {
         let result = match &mut self.ahead {
@@ -119,7 +135,9 @@ impl<R: Read + Drop> Source for BufferedSource<R> {
     }
 
     /// Returns whether the read buffer is empty; false if there is no reader.
-    fn may_wait(&self) -> bool {
+    fn may_wait(&self) -> bool
+        ensures { IsTrue result ↔ (self.now.outside.is_there ≡ true) × (self.now.buffered ≡ []) }
+    {
         match &self.ahead {
             Ok(ahead) => ahead.is_empty(),
             Err(_) => false,
@@ -127,9 +145,9 @@ impl<R: Read + Drop> Source for BufferedSource<R> {
     }
 }
 
-/// A writer outside the program, with a write buffer. Its octets are known if the writer's are.
-/// Octets may stay in the buffer until `flush`; dropping the sink writes none. After a failed write
-/// the buffered octets are discarded.
+/// A writer outside the program, with a write buffer. Its octets (`octets_held_of`) are known if
+/// the writer's are; its `held` never is, since a failed write discards the buffered octets. Octets
+/// may stay in the buffer until `flush`; dropping the sink writes none.
 #[derive(Drop)]
 pub struct BufferedSink<W: Write> {
     /// The writer, or why there is none.
@@ -143,7 +161,7 @@ impl<W: Write> Model for BufferedSink<W> {
     ghost view = { λ s. record {
       outside = record { is_there = is_ok s.behind; faults = s.faults };
       written = written_of W.contents s.behind;
-      buffered = buffered_of s.behind;
+      buffered = buffered_behind s.behind;
     } };
 
     ghost invariant = { λ s. 0 < s.faults → IfOk s.behind (λ behind. IsSome behind.last_error) };
@@ -161,8 +179,8 @@ impl<W: Write + Drop> BufferedSink<W> {
         BufferedSink::opened(there(end))
     }
 
-    /// Returns a sink over the writer that was opened. If the opening failed, every call fails by
-    /// its error.
+    /// Returns a sink over the writer that was opened. If the opening failed, every call fails, and
+    /// `last_error` returns its error.
     pub fn opened(end: io::Result<W>) -> BufferedSink<W>
         ensures { result ≡ record {
           outside = record { is_there = is_ok end; faults = 0 };
@@ -194,6 +212,7 @@ impl<W: Write + Drop> BufferedSink<W> {
     pub fn last_written(&self) -> &[u8]
         ensures few { length result.now ≤ BUFFER_OCTETS }
         ensures over_none { self.now.outside.is_there ≡ false → result.now ≡ [] }
+        ensures buffered { 0 < length self.now.buffered → result.now ≡ [] }
     {
         match &self.behind {
             Ok(behind) => behind.last_written(),
@@ -209,7 +228,14 @@ impl<W: Write + Drop> Sink for BufferedSink<W> {
 
     /// Buffers the octets; calls the writer only if they do not fit into the buffer.
     fn put(&mut self, bytes: &[u8]) -> Result<(), Failed>
-        ensures appended { OnOk result (Appends (octets_of self.old) (octets_of self.new) bytes.now) }
+        ensures appended { OnOk result (Appends (octets_held_of self.old) (octets_held_of self.new)
+            bytes.now) }
+        ensures fits { self.old.outside.is_there ≡ true
+            → length self.old.buffered + length bytes.now ≤ BUFFER_OCTETS
+            → IsOk result × (self.new ≡ record self.old {
+              buffered = self.old.buffered ++ bytes.now;
+            }) }
+        ensures discarded { OnErr result (self.new.buffered ≡ []) }
         ensures cause { HasCause self.old.outside.faults self.new.outside.faults result }
         ensures over_none { self.old.outside.is_there ≡ false → IsErr result }
         ensures ok { OnOk result (self.new.outside ≡ self.old.outside) }
@@ -229,7 +255,7 @@ impl<W: Write + Drop> Sink for BufferedSink<W> {
 
     /// Writes the buffered octets.
     fn flush(&mut self) -> Result<(), Failed>
-        ensures written { OnOk result (Keeps (octets_of self.old) self.new.written) }
+        ensures written { OnOk result (Keeps (octets_held_of self.old) self.new.written) }
         ensures empty { self.new.buffered ≡ [] }
         ensures cause { HasCause self.old.outside.faults self.new.outside.faults result }
         ensures over_none { self.old.outside.is_there ≡ false → IsErr result }

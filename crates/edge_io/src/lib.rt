@@ -10,16 +10,18 @@
 //! reaches the end of the source. An `Outbox` is the list of the frames put into it: at most two,
 //! of at most 65,549 octets each.
 //!
-//! A `BufferedSink` over a writer with known octets keeps their order and loses none unless a call
-//! fails. After a `put` the octets of the writer and then those in the buffer are what they were,
-//! followed by its argument. After a `flush` the writer has them all.
+//! A `BufferedSource` over a reader with known octets has these left: those in its buffer, and then
+//! those of the reader. It reads only if its buffer is empty. A `BufferedSink` over a writer with
+//! known octets keeps their order and loses none unless a call fails. After a `put` the octets of
+//! the writer and then those in the buffer are what they were, followed by its argument. After a
+//! `flush` the writer has them all.
 //!
-//! The octets of files and of standard output are not known, so no public clause describes them.
-//! The clauses of `FileSource`, `FileSink` and `LineOut` state that every call without a file
-//! fails, and how the count of faults changes. There is a last error if and only if a call failed,
-//! and a fetch returns at most the length of the buffer. No clause states which error that is. The
-//! private `ReadAhead` is proved to keep buffered octets in order and to lose none, for readers
-//! with known octets; for files this is tested.
+//! The octets of files and of standard output are not known. So of `FileSource`, `FileSink` and
+//! `LineOut` the clauses state what happens in the buffer. Octets in it are fetched in order,
+//! octets that fit are appended to it, and a call of a sink that fails leaves none in it. A call
+//! without a file fails. The clauses state how the count of faults changes, and that there is a
+//! last error if and only if a call failed, but not which error. That files get and give their
+//! octets in order is tested.
 //!
 //! Choices: a write is repeated by std's `write_all`, which refuses a write that takes nothing; an
 //! interrupted read is tried 1,000 times. `Sink::flush` does nothing by default, since a sink with

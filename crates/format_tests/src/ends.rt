@@ -1,6 +1,6 @@
 ghost use Rattle.std.specs.Prelude.{◌≡◌, ◌<◌, ◌≤◌, [], ◌++◌, length, OnOk};
 ghost use Rattle.std.specs.Io.KnownBytes.{Appends};
-ghost use Rattle.edge_io.specs.OutsideEnds.{octets_of};
+ghost use Rattle.edge_io.specs.OutsideEnds.{octets_held_of};
 
 use edge_io::{
     BufferedSink, BufferedSource, Failed, FileSink, FileSource, LineOut, MAX_FRAME, MemSink,
@@ -160,7 +160,7 @@ fn put_both<W: Write + Drop>(
     first: &[u8],
     second: &[u8],
 ) -> Result<(), Failed>
-    ensures { OnOk result (Appends (octets_of sink.old) sink.new.written (first.now ++ second.now)) }
+    ensures { OnOk result (Appends (octets_held_of sink.old) sink.new.written (first.now ++ second.now)) }
 {
     sink.put(first)?;
     sink.put(second)?;
@@ -183,6 +183,25 @@ fn is_kept_in_memory(alloc: Global, octets: &[u8]) -> bool
 fn a_writer_in_memory_has_what_its_sink_was_given(rt: HostRuntime) -> Result<(), Fail> {
     let octets = many_octets(rt.alloc())?;
     assert!(rt; octets.len() >= 1_000 && is_kept_in_memory(rt.alloc(), &octets));
+    Ok(())
+}
+
+// Reads the octets, more than a buffer has, from a source over them in memory, in two pieces: 1,000
+// octets and the others. Returns whether they are all read, and nothing else.
+fn is_read_from_memory(octets: &[u8], read: &mut [u8]) -> bool
+    requires { 1000 ≤ length read.now }
+{
+    let mut source = BufferedSource::over(Some(octets));
+    let first = read_full(&mut source, &mut read[..1_000]).is_ok();
+    let others = read_full(&mut source, &mut read[1_000..]).is_ok();
+    first && others && source.fetch(&mut [0]) == Ok(0) && *read == *octets
+}
+
+#[test]
+fn a_source_gives_what_a_reader_in_memory_has(rt: HostRuntime) -> Result<(), Fail> {
+    let octets = many_octets(rt.alloc())?;
+    let mut read = vec![in rt.alloc(); 0u8; octets.len()]?;
+    assert!(rt; read.len() >= 1_000 && is_read_from_memory(&octets, &mut read));
     Ok(())
 }
 

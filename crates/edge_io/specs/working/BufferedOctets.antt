@@ -5,6 +5,7 @@ use Rattle.std.specs.declared.option.Option.{Option}
 use Rattle.edge_io.specs.declared.files.write_behind.WriteBehind.{WriteBehind}
 use Rattle.edge_io.specs.WriteBehind.{octets_waiting}
 
--- The octets held: those of the writer, if it has known octets, and then those in the buffer.
+-- The octets held: those of the writer, and then those in the buffer; None if the writer's are not
+-- known.
 abbrev pub octets_held : {W : Type 0} → (W → Option (List ℕ)) → WriteBehind W → Option (List ℕ)
 octets_held contents behind = append_known (contents behind.writer) (octets_waiting behind)

@@ -1,5 +1,5 @@
 //! Reads that fill a buffer, and a reader with a read buffer.
-ghost use Rattle.std.specs.Prelude.{◌≡◌, ◌≤◌, ◌↔◌, IsTrue, OnOk, OnErr, IsSome};
+ghost use Rattle.std.specs.Prelude.{◌≡◌, ◌<◌, ◌≤◌, ◌↔◌, ◌++◌, [], length, take, IsTrue, IfOk, IsOk, OnOk, OnErr, IsSome};
 ghost use Rattle.std.specs.Io.{ReadsAtMost};
 ghost use Rattle.std.specs.Io.KnownBytes.{Keeps, IsAtEnd, ReadConsumes};
 ghost use Rattle.edge_io.specs.KnownOctets.{Fetches, Fills};
@@ -63,11 +63,14 @@ pub(super) struct ReadAhead<R> {
 }
 
 impl<R: Read> ReadAhead<R> {
+    ghost use Rattle.edge_io.specs.ReadAhead.{octets_ahead};
     ghost use Rattle.edge_io.specs.working.ReadAhead.{octets_left};
 
     /// Returns a reader whose buffer is empty.
     pub(super) fn new(reader: R) -> ReadAhead<R>
-        ensures { Keeps (R.remaining reader) (octets_left R.remaining result) }
+        ensures reader { result.reader ≡ reader }
+        ensures start { result.start ≡ 0 }
+        ensures empty { result.filled ≡ 0 }
     {
         ReadAhead {
             reader,
@@ -87,7 +90,7 @@ impl<R: Read> ReadAhead<R> {
 
     /// Returns whether the read buffer is empty.
     pub(super) fn is_empty(&self) -> bool
-        ensures { IsTrue result ↔ self.now.start ≡ self.now.filled }
+        ensures { IsTrue result ↔ octets_ahead self.now ≡ [] }
     {
         self.start == self.filled
     }
@@ -97,6 +100,8 @@ impl<R: Read> ReadAhead<R> {
     pub(super) fn fetch(&mut self, buf: &mut [u8]) -> Result<usize, Failed>
         ensures octets { Fetches (octets_left R.remaining self.old)
             (octets_left R.remaining self.new) result buf.new }
+        ensures buffered { 0 < length (octets_ahead self.old) → (self.new.reader ≡ self.old.reader)
+            × IfOk result (λ n. octets_ahead self.old ≡ take n buf.new ++ octets_ahead self.new) }
         ensures ok { OnOk result (self.new.last_error ≡ self.old.last_error) }
         ensures failed { OnErr result (IsSome self.new.last_error) }
     {
@@ -115,6 +120,8 @@ impl<R: Read> ReadAhead<R> {
     fn fetch_some(&mut self, buf: &mut [u8]) -> Result<usize, Failed>
         ensures octets { Fetches (octets_left R.remaining self.old)
             (octets_left R.remaining self.new) result buf.new }
+        ensures buffered { 0 < length (octets_ahead self.old) → (self.new.reader ≡ self.old.reader)
+            × IfOk result (λ n. octets_ahead self.old ≡ take n buf.new ++ octets_ahead self.new) }
         ensures ok { OnOk result (self.new.last_error ≡ self.old.last_error) }
         ensures failed { OnErr result (IsSome self.new.last_error) }
     {
@@ -127,6 +134,7 @@ impl<R: Read> ReadAhead<R> {
 
     // Fills the buffer by one read if it has no octets left.
     fn refill(&mut self) -> Result<(), Failed>
+        ensures buffered { self.old.start < self.old.filled → IsOk result × (self.new ≡ self.old) }
         ensures kept { Keeps (octets_left R.remaining self.old) (octets_left R.remaining self.new) }
         ensures end { OnOk result (self.new.start ≡ self.new.filled →
             IsAtEnd (R.remaining self.new.reader)) }

@@ -1,5 +1,5 @@
 //! Writes through a buffer.
-ghost use Rattle.std.specs.Prelude.{◌≡◌, ◌+◌, ◌<◌, ◌≤◌, length, take, OnOk, OnErr, IsSome};
+ghost use Rattle.std.specs.Prelude.{◌≡◌, ◌+◌, ◌<◌, ◌≤◌, ◌++◌, [], length, take, OnOk, OnErr, IsOk, IsSome};
 ghost use Rattle.std.specs.Io.KnownBytes.{Appends, Keeps};
 ghost use Rattle.edge_io.specs.declared.files.TheConstants.{BUFFER_OCTETS};
 
@@ -23,6 +23,7 @@ pub(super) struct WriteBehind<W> {
 }
 
 impl<W: Write> WriteBehind<W> {
+    ghost use Rattle.edge_io.specs.WriteBehind.{octets_waiting};
     ghost use Rattle.edge_io.specs.working.BufferedOctets.{octets_held};
 
     /// Returns a writer whose buffer is empty.
@@ -39,10 +40,14 @@ impl<W: Write> WriteBehind<W> {
         }
     }
 
-    /// Buffers the octets; more than `BUFFER_OCTETS` octets are written at once.
+    /// Buffers the octets; more than `BUFFER_OCTETS` octets are written directly.
     pub(super) fn put(&mut self, piece: &[u8]) -> Result<(), Failed>
         ensures octets { OnOk result (Appends (octets_held W.contents self.old)
             (octets_held W.contents self.new) piece.now) }
+        ensures fits { length (octets_waiting self.old) + length piece.now ≤ BUFFER_OCTETS
+            → IsOk result × (self.new.writer ≡ self.old.writer)
+            × (octets_waiting self.new ≡ octets_waiting self.old ++ piece.now) }
+        ensures discarded { OnErr result (self.new.filled ≡ 0) }
         ensures ok { OnOk result (self.new.last_error ≡ self.old.last_error) }
         ensures failed { OnErr result (IsSome self.new.last_error) }
     {
@@ -87,6 +92,7 @@ impl<W: Write> WriteBehind<W> {
     pub(super) fn last_written(&self) -> &[u8]
         ensures few { length result.now ≤ BUFFER_OCTETS }
         ensures octets { self.now.filled ≡ 0 → result.now ≡ take self.now.written self.now.buffer }
+        ensures none { 0 < self.now.filled → result.now ≡ [] }
     {
         if self.filled > 0 {
             return &[];
@@ -99,6 +105,8 @@ impl<W: Write> WriteBehind<W> {
         ensures kept { OnOk result (Keeps (octets_held W.contents self.old)
             (octets_held W.contents self.new)) }
         ensures room { OnOk result (BUFFER_OCTETS < self.new.filled + count → self.new.filled ≡ 0) }
+        ensures fits { self.old.filled + count ≤ BUFFER_OCTETS → IsOk result × (self.new ≡ self.old) }
+        ensures discarded { OnErr result (self.new.filled ≡ 0) }
         ensures ok { OnOk result (self.new.last_error ≡ self.old.last_error) }
         ensures failed { OnErr result (IsSome self.new.last_error) }
     {
