@@ -232,6 +232,16 @@ def a_cut_hour_is_repaired_and_fails(folder):
     folder.wants(0)
 
 
+@needing("tcpdump")
+@row
+def a_cut_hour_in_parts_fails_once(folder):
+    name = folder.hours(MAKERS["cut.pcap"](), clean())
+    said = folder.wants(1, name + ": it ends in mid-record", "of-2.pcap: status 0, end 26 26", PARTS="2")
+    if said.count("mid-record") != 1:
+        raise Fault("it is named twice:\n" + said)
+    folder.wants(0, PARTS="2")
+
+
 @row
 def malformed_variables(folder):
     folder.wants(2, "PREFIXES", PREFIXES="")
