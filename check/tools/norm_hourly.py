@@ -216,6 +216,17 @@ def files_are_kept_for_some_days(folder):
 
 
 @row
+def what_a_killed_run_left_is_removed(folder):
+    for name, age in ((".norm-run-old", 2 * 86400), (".norm-run-new", 3600)):
+        os.mkdir(os.path.join(folder.path, name))
+        os.utime(os.path.join(folder.path, name), (time.time() - age, time.time() - age))
+    folder.hours(clean(), clean())
+    folder.wants(0, ".norm-run-old: left by a run that was killed: removed")
+    if folder.has(".norm-run-old") or not folder.has(".norm-run-new"):
+        raise Fault("another folder is removed")
+
+
+@row
 def what_was_not_judged_is_not_removed(folder):
     name = folder.hour(0, b"no capture", age=3 * 86400)
     folder.hour(1, clean())
