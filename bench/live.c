@@ -53,6 +53,9 @@ struct way {
     uint32_t *times;                        /* of each tenth of a microsecond, how many */
 };
 
+/* When this run began: an earlier one may have left frames in the bridge. */
+static uint64_t started;
+
 static void fail(const char *what) { perror(what); exit(1); }
 
 static uint64_t now(void) {
@@ -158,11 +161,12 @@ static void *send_all(void *given) {
     return NULL;
 }
 
-/* Whether the frame is one of this way, and its mark. */
+/* Whether the frame is one of this run and way, and its mark. */
 static int marked(const struct way *way, const unsigned char *frame, struct mark *mark) {
     memcpy(mark, frame + 42, sizeof *mark);
     uint32_t side = ntohl(*(const uint32_t *)(const void *)(frame + 26)) == OUTSIDE;
-    return mark->magic == MAGIC && side == (uint32_t)(way->back ? !way->inwards : way->inwards);
+    return mark->magic == MAGIC && mark->sent >= started
+        && side == (uint32_t)(way->back ? !way->inwards : way->inwards);
 }
 
 static void count_frame(struct way *way, const struct mark *mark, uint64_t time) {
@@ -231,6 +235,7 @@ int main(int count, char **words) {
     int trip = !strcmp(words[3], "trip"), both = !strcmp(words[3], "both");
     int number = both ? 2 : 1, length = atoi(words[4]);
     if (length < 64 || length > LONGEST) return 2;
+    started = now();
     open_end(&outside, words[1]);
     open_end(&inside, words[2]);
     for (int i = 0; i < number; i++) {
