@@ -18,9 +18,7 @@ from lib.talk import PATIENCE
 
 TALK = os.path.join(os.path.dirname(os.path.abspath(__file__)), "talk.py")
 
-OUTSIDE, INSIDE = "198.51.100.2", "10.0.0.2"
-
-OUTSIDE_6, INSIDE_6 = "2001:db8:1::2", "2001:db8:2::2"
+OUTSIDE, INSIDE, INSIDE_6 = "198.51.100.2", "10.0.0.2", "2001:db8:2::2"
 
 OFFLOADS = ("tx", "tso", "gso", "gro", "lro", "sg")
 
@@ -135,6 +133,7 @@ class Network:
             yield process
             wait_for_end(process)
         finally:
+            process.send_signal(signal.SIGCONT)     # A case that fails may leave it stopped.
             process.send_signal(signal.SIGINT)
             said = process.stderr.read()
             if process.wait(timeout=20) != 0:

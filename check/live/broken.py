@@ -15,6 +15,7 @@ from live.raw import frames_of
 from live.traffic import talking, web
 from live.usual import kinds
 
+# A transfer of this size at this rate lasts three seconds.
 OCTETS, RATE = 30 * 10**6, "10M"
 
 CONNECTIONS = 20
@@ -73,8 +74,8 @@ def killed(trial):
 def restarted(trial):
     line = trial.line
     with trial.bridge("--restart") as bridge, \
-            web(line, "outside", trial.folder, OCTETS) as inwards, \
-            web(line, "hosts", trial.folder, OCTETS) as out:
+            web(line, "outside", trial.folder, 2 * OCTETS) as inwards, \
+            web(line, "hosts", trial.folder, 2 * OCTETS) as out:
         both = [(one, one.begin(60, RATE)) for one in (inwards, out)]
         time.sleep(0.5)
         bridge.kill_norm()

@@ -10,6 +10,7 @@ import time
 from types import SimpleNamespace
 
 from lib.network import INSIDE, OUTSIDE, TALK, whole
+from lib.outcome import skip
 from lib.talk import ECHO, PATIENCE
 from live.attacks import of_two_eras, played
 from live.parts import ended, part, require, rest
@@ -35,7 +36,7 @@ def attacked_twice(trial):
     """Plays the attacks with a plain bridge and with norm-bridge."""
     line = trial.line
     with trial.place() as folder:
-        versions, _ = monitors.available(folder)
+        versions, absent = monitors.available(folder)
         require(versions, "no monitor: tshark, tcpflow or libnids")
         asked = SimpleNamespace(norm=trial.asked.norm, count=trial.asked.random, seed=trial.asked.seed, files=[],
                                 prefixes="", in_for_out=False)
@@ -51,12 +52,13 @@ def attacked_twice(trial):
                               for both in (False, True))
             require(not faults, "%d of %d: %s" % (len(faults), len(every), shown(every, faults)))
             ended(bridge)
+    for one in absent + [("more time", name) for name in versions if name not in names]:
+        skip(*one)
     differ = split(plain, names)
     require(names and differ, "nobody reads other octets behind a plain bridge: nothing was tried")
-    return "%d: the server and %s read other octets in %d with a plain bridge, in 0 with norm (%d octets read)%s%s" % (
+    return "%d: the server and %s read other octets in %d with a plain bridge, in 0 with norm (%d octets read)%s" % (
         len(every), ", ".join(names), len(differ), octets_of(found),
-        "; left out: %d connections in two eras, %d of which differ" % (len(twice), len(across)),
-        "".join("; %s does not end in time" % name for name in versions if name not in names))
+        "; left out: %d connections in two eras, %d of which differ" % (len(twice), len(across)))
 
 
 def octets_of(every):

@@ -34,8 +34,6 @@ SETTINGS = {"ipv6/conf/all/disable_ipv6": 1, "ipv6/conf/default/disable_ipv6": 1
             "ipv4/conf/default/rp_filter": 0,
             "ipv4/ip_forward": 0, "ipv4/icmp_ratelimit": 0}
 
-DEVICES = (("outside", "eth0"), ("bridge", OUTER), ("bridge", INNER), ("hosts", "eth0"))
-
 
 def lacking():
     """Returns why there can be no such line, or None."""

@@ -34,7 +34,7 @@ def built(folder):
                           check=False)
     if made.returncode == 0:
         return path, None
-    if "pcap.h" in made.stderr:
+    if not os.path.exists("/usr/include/pcap.h"):
         return None, "libpcap-dev"
     raise OSError("contrib/bridge does not compile: " + made.stderr.splitlines()[0])
 
@@ -55,15 +55,6 @@ class Bridge:
         """Returns what it wrote to standard error."""
         with open(self.said, encoding="utf-8", errors="replace") as file:
             return file.read()
-
-    def await_words(self, wanted, seconds=PATIENCE):
-        """Waits until standard error has a match of the pattern; returns the match, or None."""
-        deadline = time.monotonic() + seconds
-        while True:
-            found = re.search(wanted, self.words())
-            if found or time.monotonic() > deadline:
-                return found
-            time.sleep(0.02)
 
     def norms(self):
         """Returns the processes of norm that it has begun."""

@@ -4,6 +4,7 @@ bridge."""
 import os
 import signal
 import struct
+import subprocess
 import time
 
 from lib.network import INSIDE, OUTSIDE
@@ -36,9 +37,9 @@ def refused(trial, what, options, words, after):
     """Runs norm-bridge with words that it has to refuse."""
     line, asked = trial.line, trial.asked
     norm = [] if "--norm" in options else ["--norm", asked.norm]
-    command = line.command("bridge",
-                           ["timeout", str(PATIENCE), asked.bridge, *norm, *options, *words, *(["--", *after] if after else [])])
-    process = line.start("bridge", *command[4:], stderr=-1, stdout=-3, text=True)
+    process = line.start("bridge", "timeout", str(PATIENCE), asked.bridge, *norm, *options, *words,
+                         *(["--", *after] if after else []), stderr=subprocess.PIPE, stdout=subprocess.DEVNULL,
+                         text=True)
     said = process.communicate()[1]
     line.end(process)
     require(process.returncode == 2,
@@ -46,8 +47,8 @@ def refused(trial, what, options, words, after):
     require(said.count("\n") == 1, "%s: %d lines on standard error" % (what, said.count("\n")))
 
 
-@part("refused words")
-def refused_words(trial):
+@part("invalid arguments")
+def invalid_arguments(trial):
     line = trial.line
     for what, words in REFUSED.items():
         refused(trial, what, *words)

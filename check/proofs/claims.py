@@ -340,6 +340,7 @@ CHECKS = {
     ]),
     "tools/pcapng": Check("--count 5", ("norm",), ("editcap", "tshark"), [
         norm("pcapng files", "reads no pcapng"),
+        norm("takes the sides from one of the interfaces", "ignores --inside"),
         norm("the report", STATUS),
     ]),
     "receivers/promises": Check("--count 40", (), (), PROMISES),
@@ -349,8 +350,9 @@ CHECKS = {
         norm("the built program", "writes nothing"),
     ], bare=True),
     "receivers/rivals": Check("--count 0 --no-routers", ("norm",), ROUTER, [
-        norm("behind norm", "copies IN to OUT"),
-        norm("what does clean traffic lose", "loses the longest record of OUT"),
+        changed("behind norm", "the model replaces no octets", "check/model/era_rows.py", "T_END, T_CLASH]",
+                "T_END]", "--model --count 0 --no-routers"),
+        norm("what does clean traffic lose", "has one cell"),
         norm("a segment with a wrong checksum", OUT),
     ]),
     "tools/rotated": Check("", ("norm",), ("dumpcap", "editcap", "mergecap", "tcpdump"), [
@@ -477,7 +479,7 @@ TOOLS = ("against_model/follow", "lib/needs", "makers/make_captures.py", "model/
 BY_HAND = {
     "against_model/notes": "the model that compares acknowledgments alone, and finds no copies, no late gaps or no "
                            "checksums of the card",
-    "receivers/rivals": "--in-for-out, `true` in the place of norm, and the model without T_CLASH",
+    "receivers/rivals": "--in-for-out, and `true` in the place of norm",
     "tools/adapters": "15 changes of ipnorm.lua, 10 of jq/, 4 of community-id, some of norm-comments and "
                       "plots/timeline",
 }

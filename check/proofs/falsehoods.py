@@ -68,16 +68,14 @@ with open(sys.argv[1], "r+b") as file:
 P
 """
 
-LOSES_LONGEST = """if records:
-    one = max(range(len(records)), key=lambda place: len(records[place]))
-    octets = octets[:at[one]] + octets[at[one] + len(records[one]):]"""
-
 OF_ANY = {"always ends with 9": STATUS, "writes nothing": NOTHING, "drops the last line": LAST}
 
 NORM = {
     "gives each refusal the number 1":
         'run "$@" | sed -E "s/^stop words [0-9]+$/stop words 1/"; exit "${PIPESTATUS[0]}"\n',
+    "has one cell": '[ "${1-}" != run ] || set -- run --cells 1 "${@:2}"\nrun "$@"\n',
     "ignores --both": WITHOUT % ("--both", 1, "--both"),
+    "ignores --inside": WITHOUT % ("--inside", 2, "--inside"),
     "ignores --mtu": WITHOUT % ("--mtu", 2, "--mtu"),
     "ignores --seed": WITHOUT % ("--seed", 2, "--seed"),
     "makes each load from the seed 1": '[ "${1-}" != load ] || [ $# -ne 3 ] || set -- load 1 "$3"\nrun "$@"\n',
@@ -88,8 +86,6 @@ NORM = {
 done
 run "$@"
 """,
-    # A pipe has been read, and cannot be read again.
-    "copies IN to OUT": ENDS + 'if [ -f "$1" ]; then cp -- "$1" "$2"; fi\n',
     # As norm-bridge runs it.
     "copies each record of a pipe to OUT": """case " $* " in
     *" /dev/stdin /dev/fd/3 "*) echo 'norm 2'; cat >&3; echo 'end 0 0'; exit 0 ;;
@@ -101,9 +97,10 @@ run "$@"
 last=$(tail -c 1 -- "$2" | od -An -tu1)
 printf "\\\\x$(printf %02x $(((last + 1) % 256)))" | dd of="$2" bs=1 seek=$((size - 1)) conv=notrunc status=none
 """,
-    "loses the longest record of OUT": ENDS + RECORDS % LOSES_LONGEST,
     "loses the longest record of OUT under --mtu":
-        'case " $* " in *" --mtu"*) ;; *) run "$@"; exit ;; esac\n' + ENDS + RECORDS % LOSES_LONGEST,
+        'case " $* " in *" --mtu"*) ;; *) run "$@"; exit ;; esac\n' + ENDS + RECORDS % """if records:
+    one = max(range(len(records)), key=lambda place: len(records[place]))
+    octets = octets[:at[one]] + octets[at[one] + len(records[one]):]""",
 }
 
 # What is false of standard error.

@@ -34,15 +34,18 @@ CHUNK = 100
 # sequence numbers jump, or begins another connection.
 FLOW = re.compile(r"(\d+)\.(\d+)\.(\d+)\.(\d+)\.(\d+)-(\d+)\.(\d+)\.(\d+)\.(\d+)\.(\d+)(c1)?")
 
+HEADERS = ("/usr/include/nids.h", "/usr/include/pcap.h")
+
 VERSION_WORDS = {"tshark": ["tshark", "--version"], "tcpflow": ["tcpflow", "-V"]}
 
 
 def available(folder):
-    """The installed monitors, with their versions, and why others are missing."""
+    """The installed monitors, with their versions, and what others need, each with its name. Raises
+    a ValueError where the headers of libnids are installed and the build fails."""
     there, absent = {}, []
     for name, words in VERSION_WORDS.items():
         if shutil.which(name) is None:
-            absent.append(name + ": not installed")
+            absent.append((name, name))
         else:
             done = subprocess.run(words, capture_output=True, text=True, check=False)
             there[name] = re.search(r"\d+(\.\d+)+", done.stdout + done.stderr)[0]
@@ -51,8 +54,10 @@ def available(folder):
                           capture_output=True, text=True, check=False) if shutil.which("cc") else None
     if made is not None and made.returncode == 0:
         there["libnids"] = libnids_version()
+    elif made is not None and all(map(os.path.exists, HEADERS)):
+        raise ValueError("libnids.c cannot be built: " + made.stderr[-300:])
     else:
-        absent.append("libnids: no C compiler, or no libnids-dev and libpcap-dev")
+        absent.append(("a compiler, libnids-dev and libpcap-dev", "libnids"))
     return there, absent
 
 
@@ -120,9 +125,12 @@ def without_gap(connection):
 
 
 def run(words, folder, deadline):
-    return subprocess.run(words, capture_output=True, text=True, errors="replace",
+    done = subprocess.run(words, capture_output=True, text=True, errors="replace",
                           timeout=max(0, deadline - time.monotonic()), check=False,
-                          env={**os.environ, "HOME": folder}).stdout
+                          env={**os.environ, "HOME": folder})
+    if done.returncode != 0:
+        raise ValueError("%s ended with %d: %s" % (words[0], done.returncode, done.stderr[-200:]))
+    return done.stdout
 
 
 def read_tshark(folder, path, deadline):

@@ -5,6 +5,7 @@ import subprocess
 from concurrent.futures import ThreadPoolExecutor
 from types import SimpleNamespace
 
+from lib.outcome import skip
 from model.formats import read_ipv4
 from model.receivers import agree
 from receivers import kernel, monitors, namespace, router, stacks
@@ -116,7 +117,7 @@ def result_of(name, task):
     try:
         return task.result()
     except subprocess.TimeoutExpired:
-        print("left out: %s: it does not end in time" % name)
+        skip("more time", name)
         return None
 
 

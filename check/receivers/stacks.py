@@ -31,6 +31,9 @@ HERE = os.path.join(os.path.dirname(os.path.abspath(__file__)), "stack_programs"
 
 NETSTACK, GO_SOURCES, NETSTACK_PACKAGE = "netstack", "/usr/share/gocode", "golang-gvisor-gvisor-dev"
 
+# The version of a package that is not installed, or of another system.
+UNKNOWN = "of unknown version"
+
 # Stacks whose host only listens and reads.
 PASSIVE = ("slirp",)
 
@@ -105,7 +108,7 @@ def start(folder, sources=None):
 def build(name, package, words, **settings):
     made = None
     if shutil.which(words[0]) is not None:
-        made = subprocess.Popen(words, stdout=subprocess.DEVNULL, stderr=subprocess.DEVNULL, **settings)
+        made = subprocess.Popen(words, stdout=subprocess.DEVNULL, stderr=subprocess.PIPE, text=True, **settings)
     return SimpleNamespace(name=name, package=package, made=made)
 
 
@@ -159,20 +162,24 @@ def write(path, text):
 
 
 def finished(builds):
-    """The stacks that were built, with the versions of their packages, and why others were not."""
+    """The stacks that were built, with the versions of their packages, and what others need, each
+    with its name. Raises a ValueError where the package is installed and the build fails."""
     there, absent = {}, []
-    for one in builds:
-        if one.made is not None and one.made.wait() == 0:
-            there[one.name] = version(one.package)
+    for one, said in [(one, one.made and one.made.communicate()[1]) for one in builds]:
+        of_package = version(one.package)
+        if one.made is not None and one.made.returncode == 0:
+            there[one.name] = of_package
+        elif one.made is not None and of_package != UNKNOWN:
+            raise ValueError("%s cannot be built: %s" % (one.name, said[-300:]))
         else:
-            absent.append("%s: it needs a compiler and %s" % (one.name, one.package))
+            absent.append(("a compiler and " + one.package, one.name))
     return there, absent
 
 
 def version(package):
     done = (subprocess.run(["dpkg-query", "-W", "-f", "${Version}", package], capture_output=True, text=True,
                            check=False) if shutil.which("dpkg-query") else None)
-    return re.split(r"[-+]", done.stdout)[0] if done is not None and done.returncode == 0 else "of unknown version"
+    return re.split(r"[-+]", done.stdout)[0] if done is not None and done.returncode == 0 else UNKNOWN
 
 
 # Reading

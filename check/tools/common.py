@@ -4,19 +4,19 @@ are counted."""
 import glob
 import itertools
 import os
-import shutil
 import subprocess
 from types import SimpleNamespace
 
 from makers.files import make_capture
 from model.built import WHOLE
+from lib.outcome import lacking
 from lib.programs import TOP
 
 CONTRIB = os.path.abspath(os.environ.get("CONTRIB") or os.path.join(TOP, "contrib"))
 
 
 class Test:
-    """A test of one adapter: its faults, and how much it compared."""
+    """A test of one adapter: its faults, how much it compared, and what it needs and has not."""
 
     def __init__(self, name):
         self.name, self.compared, self.faults, self.skipped = name, 0, [], []
@@ -27,11 +27,9 @@ class Test:
             self.faults.append("%s: expected %s\n  found %s" % (what, wanted, found))
 
     def lacks(self, *tools):
-        """Whether a tool is missing, which is then named."""
-        missing = [tool for tool in tools if shutil.which(tool) is None]
-        if missing:
-            self.skipped.append("%s: not run, since it needs: %s" % (self.name, " ".join(missing)))
-        return bool(missing)
+        """Whether a tool is missing."""
+        self.skipped += lacking(tools)
+        return bool(self.skipped)
 
 
 def run(words, folder, **more):

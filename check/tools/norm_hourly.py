@@ -262,13 +262,15 @@ def malformed_variables(folder):
 @needing("systemd-analyze")
 @row
 def what_the_unit_exposes(folder):
-    """By systemd-analyze, where it can be run."""
+    """By systemd-analyze."""
     unit = os.path.join(folder.path, "norm-hourly.service")
     with open(SERVICE, encoding="ascii") as file, open(unit, "w", encoding="ascii") as copy:
         copy.write("".join("ExecStart=/bin/true\n" if it.startswith("ExecStart=") else it for it in file))
     done = subprocess.run(["systemd-analyze", "security", "--offline=yes", "--threshold=%d" % EXPOSURE, unit],
                           stdout=subprocess.PIPE, stderr=subprocess.STDOUT, text=True, check=False)
-    if done.returncode != 0 and "exposure level" in done.stdout:
+    if "exposure level" not in done.stdout:
+        raise Fault("systemd-analyze ends with %d: %s" % (done.returncode, done.stdout))
+    if done.returncode != 0:
         raise Fault("its exposure is %d or more:\n%s" % (EXPOSURE // 10, done.stdout))
 
 

@@ -11,7 +11,7 @@ import signal
 import subprocess
 import time
 
-from lib.outcome import Fault
+from lib.outcome import Fault, skip
 from lib.programs import TOP
 from tools.troubles import MAKERS
 
@@ -233,7 +233,7 @@ def a_configuration(place):
     for name in WRITTEN:
         os.unlink(os.path.join(place.path, name))
     if not is_read:
-        return
+        return skip("Python 3.11", "norm-run: a configuration that is read")
     place.wants(11, "in.pcap", has=["--hops 1 10.0.0.0/8", "behind at most 1 router"])
     place.wants(0, "--force", "--hops", "2", "in.pcap", "198.51.100.0/24", has=["--hops 2 198.51.100.0/24"])
     place.wants(2, "--force", "--config", "/dev/null", "in.pcap", has=["no PREFIX"])

@@ -36,7 +36,7 @@ def begun(name):
     """A test of this name, which is skipped where no Python has matplotlib, and that Python."""
     test, python = Test(name), python_with_matplotlib()
     if python is None:
-        test.skipped.append("%s: not run, since it needs: matplotlib" % name)
+        test.skipped.append("matplotlib")
     return test, python
 
 

@@ -6,7 +6,6 @@ import functools
 import itertools
 import os
 import re
-import shutil
 import textwrap
 
 from tools.common import CONTRIB, Test, example_runs, random_runs, run, write
@@ -259,7 +258,7 @@ FIT = [
 
 def test_reports(_, folder):
     test = Test("wireshark: reports")
-    if test.lacks("tshark"):
+    if test.lacks("tshark", "editcap"):
         return test
     for kind, (name, at, octets, text) in [("IN", row) for row in OTHERS] + [("OUT", row) for row in OTHERS_OF_OUT]:
         capture, report = (write(os.path.join(folder, "some.pcap"), octets),
@@ -271,9 +270,8 @@ def test_reports(_, folder):
         capture, report = (write(os.path.join(folder, "some.pcap"), octets),
                            write(os.path.join(folder, "some.txt"), text.encode()))
         compare_rows(test, name, rows_of_in(text), shown(folder, capture, report, "IN")[0])
-        if shutil.which("editcap"):
-            run(["editcap", "-F", "pcapng", capture, capture + "ng"], folder)
-            compare_rows(test, name + ", as pcapng", rows_of_in(text), shown(folder, capture + "ng", report, "IN")[0])
+        run(["editcap", "-F", "pcapng", capture, capture + "ng"], folder)
+        compare_rows(test, name + ", as pcapng", rows_of_in(text), shown(folder, capture + "ng", report, "IN")[0])
     compare_other(test, folder, "no such report", capture, os.path.join(folder, "none.txt"), "IN")
     found, said, status = shown(folder, capture, None, "IN")
     test.same("neither preference nor report beside the capture",
