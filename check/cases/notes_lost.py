@@ -20,6 +20,20 @@ notes("lost in the midst", opening() + END, LOST)
 
 notes("lost outwards", opening() + [answer(1000, "efgh", 5005), data(1000, "", 5009)], lost(0, 4))
 
+# An offset is known if it is at most this far from the greatest one.
+FAR = 2**30
+
+
+def below(at):
+    """Four octets outwards at FAR, four at a lower offset, and an acknowledgment of all."""
+    return opening() + [answer(1000, "efgh", 5001 + FAR), answer(1000, "abcd", 5001 + at),
+                        data(1000, "", 5001 + FAR + 4)]
+
+
+notes("octets at the least known offset", below(4), lost(0, FAR - 4))
+
+notes("octets one below the least known offset", below(3), lost(0, FAR))
+
 notes("lost in both directions", opening() + [END[0], answer(1008, "x", 5002), data(1008, "", 5003)],
       lost(4, 1))
 

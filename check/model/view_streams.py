@@ -48,7 +48,7 @@ class Half:
         count = octets_of(item)
         # A segment without octets and without SYN may be a keep-alive, one octet before the next.
         more = has(item, SYN) or count == 0
-        self.base, self.top = (item.flow.seq + more) % 2**32, count
+        self.base, self.top = item.flow.seq + more, count
         self.pieces.append((0, count))
 
     def covers(self, item):

@@ -485,7 +485,7 @@ BY_HAND = {
 }
 
 # The checks that judge times.
-ALONE = ("system/hostile",)
+ALONE = ("system/hostile", "system/large")
 
 # The checks that take longest, so that none of them is left for the end.
 LONGEST = ("system/real_ends", "system/errors", "pages/commands", "tools/first_captures", "receivers/rivals",
