@@ -105,7 +105,7 @@ def print_page(asked, opened, found, ends):
     row("files", " ".join(ends.files))
     if found.evidence and found.evidence["found"]:
         row("next", shown_command(opened, ["normview", "--evidence", "IN", *ends.files[:2]]))
-        row("", "what did the host read? share/norm/replay: docs/RECIPES.md, Evidence")
+        row("", "what did the host read? run share/norm/replay (docs/RECIPES.md, Evidence)")
     colour, text = VERDICTS[ends.word]
     if ends.word == "evidence" and found.notes["warns"]:
         text += "; but IN may be bad: see the notes first"
