@@ -4,7 +4,7 @@ use Rattle.std.specs.List.{flat_map, range_with_len}
 use Rattle.std.proofs.Math.Nat.{mul-le-mul_left}
 use Rattle.std.proofs.lemmas.Bool.{cases_lt, and_right, le-ltb, ltb-false, or_parts}
 use Rattle.std.proofs.lemmas.Grind.{div_ceil_times}
-use Rattle.std.proofs.lemmas.List.{drop-drop, drop_all, take-append-drop}
+use Rattle.std.proofs.lemmas.List.{drop-drop, drop-map, drop_all, take-append-drop}
 use Rattle.std.proofs.lemmas.List.FromFn.{get_or-map-range_with_len, length-map-range_with_len}
 use Rattle.std.proofs.lemmas.Option.{get_or_from_slice_get, slice_get_within}
 use Rattle.std.proofs.lemmas.List.Elements.{All-nil, All-cons}
@@ -16,6 +16,7 @@ use Rattle.wire_base.specs.Checksums.{sum_is_right}
 use Rattle.wire_base.specs.Plain.{Plain, pseudo_of}
 use Rattle.wire_base.specs.Segments.{fields_of}
 use Rattle.wire_base.specs.declared.frame.FrameKind.TheVariants.{Ip}
+use Rattle.wire_base.specs.declared.limits.TheConstants.{MAX_PACKET}
 use Rattle.wire_base.specs.Options.{are_well_formed}
 use Rattle.tcp_codec.specs.declared.header.SumRule.TheVariants.{Skip}
 use Rattle.tcp_codec.specs.HeaderFields.{fault_of}
@@ -216,6 +217,36 @@ next-left room index parts some begins =
     let bound = within room index parts some begins in
     let more : count_of room parts - index ≡ suc (count_of room parts - (index + 1)) = omega arith in
     ap (λ n. map (segment_of room parts) (range_with_len index n)) more
+
+-- the segments that are left, and those left after some of them
+
+-- there are as many as parts from this one on
+pub count-left : (room index : ℕ) (parts : Parts) → length (segments_from index room parts) ≡ count_of room parts - index
+count-left room index parts = length-map-range_with_len (segment_of room parts) index (count_of room parts - index)
+
+-- the number of a part fits 16 bits
+pub few_parts : (room : ℕ) (parts : Parts) → 0 < room → length parts.payload ≤ MAX_PACKET → count_of room parts ≤ MAX_PACKET
+few_parts room parts some short =
+    ⊎_elim (λ many. absurd (above_all (length parts.payload) room (count_of room parts) some (div_ceil_times (length parts.payload) room some).1 many)) (λ few. omega (arith, few, short)) (cases_lt (length parts.payload) (count_of room parts))
+  where
+    above_all : (size room n : ℕ) → 0 < room → n * room < size + room → size < n → ⊥
+    above_all size zero n some bound many = absurd (omega (arith, some))
+    above_all size (suc room) zero some bound many = absurd (omega (arith, many))
+    above_all size (suc room) (suc n) some bound many = grind arith
+
+drop-range : (k a n : ℕ) → drop k (range_with_len a n) ≡ range_with_len (a + k) (n - k)
+drop-range zero a n = grind arith
+drop-range (suc k) a zero = let none : zero - suc k ≡ 0 = omega arith in ap (range_with_len (a + suc k)) (sym none)
+drop-range (suc k) a (suc n) =
+    let from : a + 1 + k ≡ a + suc k = omega arith in
+    let rest : n - k ≡ suc n - suc k = omega arith in
+    drop-range k (a + 1) n ∙ ap (λ first. range_with_len first (n - k)) from ∙ ap (range_with_len (a + suc k)) rest
+
+pub skip-left : (room index count : ℕ) (parts : Parts) → drop count (segments_from index room parts) ≡ segments_from (index + count) room parts
+skip-left room index count parts =
+    let rest : count_of room parts - index - count ≡ count_of room parts - (index + count) = omega arith in
+    drop-map (segment_of room parts) count (range_with_len index (count_of room parts - index))
+    ∙ ap (map (segment_of room parts)) (drop-range count index (count_of room parts - index) ∙ ap (range_with_len (index + count)) rest)
 
 -- The frames that are written instead of a frame are not long, and segments are frames that may be
 -- written.

@@ -69,4 +69,19 @@ impl<'a> Cutter<'a> {
         self.index += 1;
         Some(size)
     }
+
+    /// Returns the number of segments that are still to be written.
+    pub fn left(&self) -> usize
+        ensures { result ≡ length self.now }
+    {
+        self.parts.payload_size().div_ceil(self.room) - usize::from(self.index)
+    }
+
+    /// Skips the next `count` segments.
+    pub fn skip(&mut self, count: u16)
+        requires { count ≤ length self.old }
+        ensures { self.new ≡ drop count self.old }
+    {
+        self.index += count;
+    }
 }
