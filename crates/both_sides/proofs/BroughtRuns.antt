@@ -1,90 +1,26 @@
 -- What a run writes was recorded: nothing is invented, each clash in its lines is real, receivers
 -- read what records brought, and a run that changes nothing inwards was read as it was recorded.
-use Rattle.std.proofs.Common.{◌≡◌, ℕ, ◌||◌, Bool, true, false, List, [], ◌∷◌, ◌++◌, map, Option, Some, None, refl, sym, ap, subst, ◌∙◌, append_assoc}
-use Rattle.std.specs.List.{AllByRecursion, list_any}
+use Rattle.std.proofs.Common.{◌≡◌, ℕ, List, [], ◌∷◌, ◌++◌, map, refl, sym, ap, subst, ◌∙◌, append_assoc}
 use Rattle.wire_base.specs.declared.address.Link.{Link}
 use Rattle.pcap_file.specs.Records.{Packet}
-use Rattle.rule_book.specs.declared.rule.Rule.{Rule}
 use Rattle.norm_settings.specs.SettingValues.{PlainSettings}
 use Rattle.era_agreement.specs.SentPackets.{inward_packets, inward_places}
 use Rattle.norm_engine.specs.Items.{Item, packets}
 use Rattle.norm_engine.specs.Agreement.{ReadsOneStream, sent_in}
-use Rattle.norm_engine.specs.BroughtOctets.{LawfulClashesAreReal, LawfulInventsNothing, NamesEachClash, is_clash, names_clash}
-use Rattle.norm_engine.specs.HeldFragments.{LawfulFragmentClashesAreReal, NamesEachFragmentClash, is_fragment_clash, names_fragment_clash}
+use Rattle.norm_engine.specs.BroughtOctets.{LawfulClashesAreReal, LawfulInventsNothing}
+use Rattle.norm_engine.specs.HeldFragments.{LawfulFragmentClashesAreReal}
 use Rattle.norm_engine.specs.TraceLaws.{IsSound}
 use Rattle.norm_engine.proofs.BroughtOctets.{without_clash}
 use Rattle.norm_engine.proofs.EraReadings.{reads_its_records}
 use Rattle.both_sides.specs.Traces.{behind, mirrored, record_of, records_of}
-use Rattle.both_sides.specs.WrittenTrace.{cuts_some, item_written, keeps_some_back, places_written, rules_cut, written, ReadsOneStreamAsWritten, WrittenWhole}
+use Rattle.norm_engine.specs.WrittenTrace.{ReadsOneStreamAsWritten, WrittenWhole, WrittenClashesAreReal, WrittenFragmentClashesAreReal}
 use Rattle.both_sides.specs.RunTraces.{RunTrace, one, two}
 use Rattle.both_sides.specs.RunLaws.{RunIsWrittenSoundly, RunsAreWrittenSoundly}
-use Rattle.both_sides.specs.BroughtOctets.{AreFramesOf, IsFrameOf, NamesEachClashAsWritten, NamesEachFragmentClashAsWritten, RunIsBrought, RunReadsRecords, RunsAreBrought, RunsReadRecords}
+use Rattle.both_sides.specs.BroughtOctets.{AreFramesOf, IsFrameOf, RunIsBrought, RunReadsRecords, RunsAreBrought, RunsReadRecords}
 use Rattle.norm_engine.specs.RecordedHost.{LawfulWasReadSo, UnchangedWasReadSo}
 use Rattle.norm_engine.specs.TwoEras.{ErasGoOn, LawfulErasGoOn}
 use Rattle.both_sides.specs.RecordedHost.{ErasOfRunsGoOn, RunsWereReadSo}
-
--- What is named in a line, as it is written.
-
--- a rule named after others, which does not pass the test
-any_before : (test : Rule → Bool) (xs ys : List Rule) → list_any test ys ≡ false → list_any test (xs ++ ys) ≡ list_any test xs
-any_before test [] ys none = none
-any_before test (x ∷ xs) ys none = ap (λ b. test x || b) (any_before test xs ys none)
-
--- the rules on cuts are neither of the two
-no_clash_cut : (cut kept_back : Bool) → names_clash (rules_cut cut kept_back) ≡ false
-no_clash_cut true true = refl
-no_clash_cut true false = refl
-no_clash_cut false true = refl
-no_clash_cut false false = refl
-
-no_fragment_clash_cut : (cut kept_back : Bool) → names_fragment_clash (rules_cut cut kept_back) ≡ false
-no_fragment_clash_cut true true = refl
-no_fragment_clash_cut true false = refl
-no_fragment_clash_cut false true = refl
-no_fragment_clash_cut false false = refl
-
-clash_written : (mtu : Option ℕ) (link : Link) (item : Item) → names_clash (item_written mtu link item).entry.rules ≡ names_clash item.entry.rules
-clash_written None link item = refl
-clash_written (Some mtu) link item =
-    any_before is_clash item.entry.rules (rules_cut (cuts_some (Some mtu) link item.frames) (keeps_some_back (Some mtu) link item.frames))
-    (no_clash_cut (cuts_some (Some mtu) link item.frames) (keeps_some_back (Some mtu) link item.frames))
-
-fragment_clash_written : (mtu : Option ℕ) (link : Link) (item : Item)
-    → names_fragment_clash (item_written mtu link item).entry.rules ≡ names_fragment_clash item.entry.rules
-fragment_clash_written None link item = refl
-fragment_clash_written (Some mtu) link item =
-    any_before is_fragment_clash item.entry.rules (rules_cut (cuts_some (Some mtu) link item.frames) (keeps_some_back (Some mtu) link item.frames))
-    (no_fragment_clash_cut (cuts_some (Some mtu) link item.frames) (keeps_some_back (Some mtu) link item.frames))
-
-era_written : (mtu : Option ℕ) (link : Link) (item : Item) → (item_written mtu link item).entry.era ≡ item.entry.era
-era_written None link item = refl
-era_written (Some mtu) link item = refl
-
-clashes_written : (settings : PlainSettings) (link : Link) (trace : List Item) → NamesEachClash settings link trace → NamesEachClashAsWritten settings link trace
-clashes_written settings link [] real = tt
-clashes_written settings link (item ∷ older) real =
-    let same = clash_written settings.mtu link item in
-    (clashes_written settings link older real.0, (λ e. real.1.0 (sym same ∙ e), λ c. same ∙ real.1.1 c))
-
-fragment_clashes_written : (settings : PlainSettings) (link : Link) (trace : List Item) → NamesEachFragmentClash settings link trace
-    → NamesEachFragmentClashAsWritten settings link trace
-fragment_clashes_written settings link [] real = tt
-fragment_clashes_written settings link (item ∷ older) real =
-    let same = fragment_clash_written settings.mtu link item in
-    (fragment_clashes_written settings link older real.0, (λ e. real.1.0 (sym same ∙ e), λ c. same ∙ real.1.1 c))
-
--- each as the trace is written
-clashes_in_trace : (settings : PlainSettings) (link : Link) (trace : List Item) → NamesEachClashAsWritten settings link trace → NamesEachClash settings link trace
-clashes_in_trace settings link [] real = tt
-clashes_in_trace settings link (item ∷ older) real =
-    let same = clash_written settings.mtu link item in
-    (clashes_in_trace settings link older real.0, (λ e. real.1.0 (same ∙ e), λ c. sym same ∙ real.1.1 c))
-
-none_written : (mtu : Option ℕ) (link : Link) (era : ℕ) (trace : List Item) → AllByRecursion (λ item. item.entry.era ≡ Some era → names_clash item.entry.rules ≡ false) trace
-    → AllByRecursion (λ item. item.entry.era ≡ Some era → names_clash item.entry.rules ≡ false) (map (item_written mtu link) trace)
-none_written mtu link era [] none = tt
-none_written mtu link era (item ∷ older) none =
-    (λ e. clash_written mtu link item ∙ none.0 (sym (era_written mtu link item) ∙ e), none_written mtu link era older none.1)
+use Rattle.norm_engine.proofs.WrittenClashes.{reads_written}
 
 -- The records of the second engine.
 
@@ -139,21 +75,29 @@ module _ (trace : List Item) where
 
 -- A run.
 
-pub runs_are_brought : LawfulInventsNothing → LawfulClashesAreReal → LawfulFragmentClashesAreReal → RunsAreBrought
-runs_are_brought nothing real fragments settings link (one trace) hops lawful octets =
+-- the laws of one engine that this is based on
+pub record BroughtLaws : Type 0 where
+  pub nothing : LawfulInventsNothing
+  pub real : LawfulClashesAreReal
+  pub fragments : LawfulFragmentClashesAreReal
+  pub written : WrittenClashesAreReal
+  pub written_fragments : WrittenFragmentClashesAreReal
+
+pub runs_are_brought : BroughtLaws → RunsAreBrought
+runs_are_brought laws settings link (one trace) hops lawful octets =
     let sound : IsSound settings link trace = record { hops = hops; octets = octets.0; lawful = lawful.1 } in
     record {
-      brought = nothing settings link trace sound;
-      clashes = clashes_written settings link trace (real settings link trace sound);
-      fragment_clashes = fragment_clashes_written settings link trace (fragments settings link trace lawful.1);
+      brought = laws.nothing settings link trace sound;
+      clashes = laws.written settings link trace sound;
+      fragment_clashes = laws.written_fragments settings link trace sound;
     }
-runs_are_brought nothing real fragments settings link (two trace mirror) hops lawful octets =
+runs_are_brought laws settings link (two trace mirror) hops lawful octets =
     let front : IsSound settings link trace = record { hops = hops; octets = octets.0; lawful = lawful.1.first } in
     let back : IsSound (mirrored settings) link mirror = record { hops = hops; octets = octets.1; lawful = lawful.1.second } in
     record {
-      brought = (nothing settings link trace front, nothing (mirrored settings) link mirror back, frames_of_first trace mirror lawful.1.handed);
-      clashes = (real settings link trace front, real (mirrored settings) link mirror back);
-      fragment_clashes = (fragments settings link trace lawful.1.first, fragments (mirrored settings) link mirror lawful.1.second);
+      brought = (laws.nothing settings link trace front, laws.nothing (mirrored settings) link mirror back, frames_of_first trace mirror lawful.1.handed);
+      clashes = (laws.real settings link trace front, laws.real (mirrored settings) link mirror back);
+      fragment_clashes = (laws.fragments settings link trace lawful.1.first, laws.fragments (mirrored settings) link mirror lawful.1.second);
     }
 
 -- receivers of what is written read parts of one stream, on the side of each engine
@@ -163,12 +107,7 @@ ReadsOneStreamOf settings link (two trace mirror) = ReadsOneStream settings.hops
 
 -- receivers read what the records of a run brought
 pub run_reads_records : (settings : PlainSettings) (link : Link) (run : RunTrace) → RunIsBrought settings link run → ReadsOneStreamOf settings link run → RunReadsRecords settings link run
-run_reads_records settings link (one trace) brought reads =
-    let sent = sent_in link trace in
-    let lines = written settings link trace in
-    reads_its_records settings link trace lines (λ era base. places_written settings.mtu (inward_places era base sent) (inward_packets era sent)) (λ era. inward_packets era (sent_in link lines))
-    brought.brought reads
-    (λ era same. none_written settings.mtu link era trace (without_clash settings link era trace (clashes_in_trace settings link trace brought.clashes) same))
+run_reads_records settings link (one trace) brought reads = reads_written settings link trace brought.brought brought.clashes reads
 run_reads_records settings link (two trace mirror) brought reads =
     let front = sent_in link trace in
     let back = sent_in link mirror in (

@@ -2,7 +2,5 @@ pub mod SecondEngine
 pub mod FirstEngine
 pub mod TwoEngines
 pub mod Outputs
-pub mod Frames
 pub mod Runs
-pub mod Receivers
 pub mod BroughtRuns

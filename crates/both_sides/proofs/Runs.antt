@@ -9,15 +9,15 @@ use Rattle.pcap_file.specs.declared.record.Order.{Order}
 use Rattle.pcap_file.specs.Records.{Packet, record_octets}
 use Rattle.rule_book.specs.Text.{entry_text, lines_text, last_text}
 use Rattle.norm_settings.specs.SettingValues.{PlainSettings, AreInRange}
-use Rattle.norm_engine.specs.Items.{Item, entries, packets}
+use Rattle.norm_engine.specs.Items.{Item, entries, packets, frame_count}
 use Rattle.norm_engine.specs.Trace.{Lawful, item_of}
 use Rattle.norm_engine.specs.EngineState.{Engaged}
 use Rattle.norm_engine.specs.EngineState as single
 use Rattle.norm_engine.specs.TraceLaws.{IsSound, LawfulIsWithin, LawfulKeepsClean, LawfulMissesNothing, LawfulIsOne, LawfulReadsOneStream}
 use Rattle.norm_engine.specs.SentFrames.{LawfulIsPlainInwards, LawfulIsShort}
 use Rattle.both_sides.specs.Traces.{behind, mirrored, record_of, records_for, records_of}
-use Rattle.both_sides.specs.WrittenTrace.{item_written, written, LawfulIsWrittenSoundly}
-use Rattle.both_sides.specs.Frames.{frame_count, frames_octets, item_octets}
+use Rattle.norm_engine.specs.WrittenTrace.{item_written, written, LawfulIsWrittenSoundly}
+use Rattle.both_sides.specs.Frames.{frames_octets, item_octets}
 use Rattle.both_sides.specs.RunLaws.{Begins, PutsItsTrace, RunsGoOn, RunsAreWrittenSoundly, LawfulRunsAreOne, TwoPutTheirMirror}
 use Rattle.both_sides.specs.Outputs.{heading}
 use Rattle.both_sides.specs.RecordOutputs.{count_put, octets_put, put_by_two, puts, puts_by_two, text_put, next_put, answers_frames, put_octets}

@@ -1,18 +1,16 @@
 -- Which records brought what a run writes, by one engine or by two, and which of them contradict
 -- each other (this project's profile).
-use Rattle.std.specs.Prelude.{◌≡◌, ◌↔◌, ℕ, ◌≤◌, true, List, [], ◌∷◌, ◌++◌, map}
+use Rattle.std.specs.Prelude.{◌≡◌, ℕ, ◌≤◌, List, ◌∷◌, ◌++◌, map}
 use Rattle.wire_base.specs.declared.address.Link.{Link}
 use Rattle.pcap_file.specs.Records.{Packet}
 use Rattle.norm_settings.specs.SettingValues.{AreInRange, GoTogether, PlainSettings}
-use Rattle.era_agreement.specs.SentPackets.{inward_packets, inward_places}
 use Rattle.norm_engine.specs.Items.{Item, packets}
-use Rattle.norm_engine.specs.Agreement.{sent_in}
-use Rattle.norm_engine.specs.BroughtOctets.{Contradicts, InventsNothing, NamesEachClash, names_clash}
-use Rattle.norm_engine.specs.GivenOctets.{ReadsItsRecords, ReadsRecords}
-use Rattle.norm_engine.specs.HeldFragments.{ContradictsHeld, NamesEachFragmentClash, names_fragment_clash}
+use Rattle.norm_engine.specs.BroughtOctets.{InventsNothing, NamesEachClash}
+use Rattle.norm_engine.specs.GivenOctets.{ReadsRecords}
+use Rattle.norm_engine.specs.HeldFragments.{NamesEachFragmentClash}
 use Rattle.both_sides.specs.Traces.{behind, mirrored, record_of, records_of}
-use Rattle.both_sides.specs.WrittenTrace.{item_written, places_written, written}
 use Rattle.both_sides.specs.RunTraces.{LawfulRun, RunHasNoSide, RunHasOctets, RunTrace, one, two}
+use Rattle.norm_engine.specs.WrittenTrace.{NamesEachClashAsWritten, NamesEachFragmentClashAsWritten, ReadsRecordsAsWritten}
 
 -- This record of the second engine is a frame that the first engine wrote for a record of the
 -- capture, and has the time of that record. Before it the second engine had read exactly the frames
@@ -44,28 +42,12 @@ RunInventsNothing settings link (one trace) = InventsNothing settings link trace
 RunInventsNothing settings link (two trace mirror) =
     InventsNothing settings link trace × InventsNothing (mirrored settings) link mirror × AreFramesOf trace mirror
 
--- T_CLASH is exact in the lines that are written: each names it exactly if its record contradicts
--- the stream of an era.
-abbrev pub NamesEachClashAsWritten : PlainSettings → Link → List Item → Type 0
-NamesEachClashAsWritten settings link [] = Unit {0}
-NamesEachClashAsWritten settings link (item ∷ older) =
-    NamesEachClashAsWritten settings link older
-    × ((names_clash (item_written settings.mtu link item).entry.rules ≡ true) ↔ Contradicts settings link item older)
-
 -- The lines of each engine name T_CLASH exactly if their record is written, has neither SYN nor
 -- RST, and contradicts the stream. It does so by an octet, at an offset at or past Acked, that
 -- differs from the one written first there.
 abbrev pub RunNamesEachClash : PlainSettings → Link → RunTrace → Type 0
 RunNamesEachClash settings link (one trace) = NamesEachClashAsWritten settings link trace
 RunNamesEachClash settings link (two trace mirror) = NamesEachClash settings link trace × NamesEachClash (mirrored settings) link mirror
-
--- F_CLASH is exact in the lines that are written: each names it exactly if its record carries a
--- fragment that contradicts a held one.
-abbrev pub NamesEachFragmentClashAsWritten : PlainSettings → Link → List Item → Type 0
-NamesEachFragmentClashAsWritten settings link [] = Unit {0}
-NamesEachFragmentClashAsWritten settings link (item ∷ older) =
-    NamesEachFragmentClashAsWritten settings link older
-    × ((names_fragment_clash (item_written settings.mtu link item).entry.rules ≡ true) ↔ ContradictsHeld settings link item older)
 
 -- The lines of each engine name F_CLASH exactly if their record carries a fragment, which no rule
 -- tested before drops, with an octet that differs from a held one.
@@ -86,17 +68,7 @@ RunsAreBrought =
     (settings : PlainSettings) (link : Link) (run : RunTrace) → settings.hops ≤ 254 → LawfulRun settings link run → RunHasOctets settings run
     → RunIsBrought settings link run
 
--- Receivers of the packets that are written of a trace, cut for the MTU if there is one, read only
--- what its records brought. If no record of an era differs from an earlier one at an offset at or
--- past Acked, they read what the sender gave, and no line of the era names T_CLASH.
-abbrev pub ReadsRecordsAsWritten : PlainSettings → Link → List Item → Type 0
-ReadsRecordsAsWritten settings link trace =
-    let sent = sent_in link trace in
-    let lines = written settings link trace in
-    ReadsItsRecords settings link trace lines (λ era base. places_written settings.mtu (inward_places era base sent) (inward_packets era sent))
-    (λ era. inward_packets era (sent_in link lines))
-
--- the same of a run, on the side of each engine
+-- receivers read only what records brought, on the side of each engine
 abbrev pub RunReadsRecords : PlainSettings → Link → RunTrace → Type 0
 RunReadsRecords settings link (one trace) = ReadsRecordsAsWritten settings link trace
 RunReadsRecords settings link (two trace mirror) = ReadsRecords settings link trace × ReadsRecords (mirrored settings) link mirror

@@ -1,6 +1,6 @@
 -- The octets of a written capture, from the frames of a trace (this project's profile). A trace is
 -- a list with the newest item at the head.
-use Rattle.std.specs.Prelude.{ℕ, ◌+◌, List, [], ◌∷◌, ◌++◌, length}
+use Rattle.std.specs.Prelude.{ℕ, List, [], ◌∷◌, ◌++◌}
 use Rattle.std.specs.List.{flat_map}
 use Rattle.pcap_file.specs.declared.record.Order.{Order}
 use Rattle.pcap_file.specs.Records.{Packet, record_octets}
@@ -17,8 +17,3 @@ item_octets order item = frame_octets order item.packet item.frames
 abbrev pub frames_octets : Order → List Item → List ℕ
 frames_octets order [] = []
 frames_octets order (item ∷ older) = frames_octets order older ++ item_octets order item
-
--- the number of frames written
-abbrev pub frame_count : List Item → ℕ
-frame_count [] = 0
-frame_count (item ∷ older) = frame_count older + length item.frames

@@ -2,7 +2,6 @@ pub mod Traces
 pub mod TwoEngines
 pub mod EngineLaws
 pub mod Frames
-pub mod WrittenTrace
 pub mod Sinks
 pub mod Outputs
 pub mod RunTraces

@@ -12,7 +12,7 @@ use Rattle.norm_settings.specs.SettingValues.{PlainSettings}
 use Rattle.norm_engine.specs.Items.{Item}
 use Rattle.norm_engine.specs.Trace.{item_of}
 use Rattle.both_sides.specs.Traces.{records_for}
-use Rattle.both_sides.specs.WrittenTrace.{item_written}
+use Rattle.norm_engine.specs.WrittenTrace.{item_written}
 use Rattle.both_sides.specs.Outputs.{Output, to_capture, to_report, Given, heading}
 use Rattle.both_sides.specs.RunTraces.{RunTrace, one, two, answers}
 use Rattle.both_sides.specs.Sinks.{Sinks, NoSinkRose}

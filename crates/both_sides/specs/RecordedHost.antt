@@ -6,7 +6,7 @@ use Rattle.norm_settings.specs.SettingValues.{PlainSettings}
 use Rattle.norm_engine.specs.Items.{Item}
 use Rattle.norm_engine.specs.RecordedHost.{UnchangedWasReadSo}
 use Rattle.norm_engine.specs.TwoEras.{ErasGoOn}
-use Rattle.both_sides.specs.WrittenTrace.{written}
+use Rattle.norm_engine.specs.WrittenTrace.{written}
 use Rattle.both_sides.specs.RunTraces.{LawfulRun, RunHasOctets, RunTrace, one, two}
 
 -- This is said of what is written in each lawful run of records of octets by one engine, without an

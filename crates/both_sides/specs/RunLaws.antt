@@ -7,15 +7,15 @@ use Rattle.pcap_file.specs.Records.{Packet}
 use Rattle.rule_book.specs.declared.last.Last.{Last}
 use Rattle.rule_book.specs.Text.{report_text}
 use Rattle.norm_settings.specs.SettingValues.{AreInRange, GoTogether, PlainSettings}
-use Rattle.norm_engine.specs.Items.{Item, entries}
+use Rattle.norm_engine.specs.Items.{Item, entries, frame_count}
 use Rattle.norm_engine.specs.Agreement.{Agree, AtEachHistory, MissesNothing, ReadsOneStream}
 use Rattle.norm_engine.specs.CleanRecords.{CleanIsKept}
 use Rattle.norm_engine.specs.TraceLaws.{IsAlwaysWithin}
 use Rattle.norm_engine.specs.SentFrames.{ArePlainInwards, HasShortFrames}
 use Rattle.both_sides.specs.EngineLaws.{InwardGoesThrough}
 use Rattle.both_sides.specs.Traces.{mirrored, AreLawful}
-use Rattle.both_sides.specs.WrittenTrace.{IsWrittenSoundly, written}
-use Rattle.both_sides.specs.Frames.{frame_count, frames_octets}
+use Rattle.norm_engine.specs.WrittenTrace.{IsWrittenSoundly, written}
+use Rattle.both_sides.specs.Frames.{frames_octets}
 use Rattle.both_sides.specs.RecordOutputs.{count_put, next_put, octets_put, puts, report_of}
 use Rattle.both_sides.specs.RunTraces.{LawfulRun, RunHasNoSide, RunHasOctets, RunTrace, empty_run, next_run, one, packets_of, two}
 

@@ -9,7 +9,7 @@ use Rattle.norm_engine.specs.Trace.{Lawful, item_of}
 use Rattle.norm_engine.specs.CleanRecords.{HaveOctets}
 use Rattle.both_sides.specs.Traces.{AreLawful, mirrored, records_for}
 use Rattle.both_sides.specs.EngineLaws.{HaveNoSide}
-use Rattle.both_sides.specs.WrittenTrace.{HaveFrameOctets}
+use Rattle.norm_engine.specs.WrittenTrace.{HaveFrameOctets}
 
 pub data RunTrace : Type 0 where
   one : List Item → RunTrace

@@ -1,19 +1,19 @@
 //! What is written for the frames of a record: each is written as it is, cut if it is longer than
 //! the MTU of the next link, or dropped.
-ghost use Rattle.std.specs.Prelude.{◌≡◌, ◌≤◌, ◌<◌, ◌+◌, ◌^◌, ◌||◌, ℕ, true, [], ◌∷◌, All, Some, length, slice_index, IfOk, IfSome, OnOk, OnErr};
+ghost use Rattle.std.specs.Prelude.{◌≡◌, ◌≤◌, ◌<◌, true, [], ◌∷◌, All, Some, length, IfOk, IfSome, OnOk, OnErr};
 ghost use Rattle.edge_io.specs.FaultCounts.{HasCause};
 ghost use Rattle.edge_io.specs.KnownOctets.{Puts};
 ghost use Rattle.pcap_file.specs.RecordReading.{shown};
 ghost use Rattle.rule_book.specs.Entries.{plain};
 ghost use Rattle.norm_engine.specs.EngineState.{frames_given};
-ghost use Rattle.emit_mtu.specs.FrameParts.{AreOctets, IsSent};
+ghost use Rattle.emit_mtu.specs.FrameParts.{IsSent};
 ghost use Rattle.emit_mtu.specs.LongFrames.{long_kind};
 ghost use Rattle.emit_mtu.specs.Segments.{segments};
 ghost use Rattle.emit_mtu.specs.CutStreams.{frames_for};
 ghost use Rattle.emit_mtu.specs.declared.long.LongKind.TheVariants as kinds;
 ghost use Rattle.both_sides.specs.Frames.{frame_octets};
-ghost use Rattle.both_sides.specs.WrittenTrace as spec;
-ghost use Rattle.both_sides.specs.working.FrameReports as working;
+ghost use Rattle.norm_engine.specs.WrittenTrace as spec;
+ghost use Rattle.norm_engine.specs.working.FrameReports as working;
 ghost use Rattle.wire_base.specs.declared.limits.TheConstants.{MAX_FRAME};
 ghost use Rattle.rule_book.specs.declared.entry.TheConstants.{MAX_NAMED};
 
@@ -22,19 +22,8 @@ use edge_io::{MAX_FRAME, Outbox, Sink};
 use emit_mtu::laws::segments_fit;
 use emit_mtu::{Cutter, LongKind, long_kind};
 use ip_rules::write::put_read;
+use norm_engine::written::{Emitted, have_octets, joined, tell_cut};
 use pcap_file::{Head, Record, WriteFault, write_record};
-use rule_book::{Entry, Rule, Verdict};
-
-/// Report on a frame, or on all frames of a record.
-#[derive(Clone, Copy)]
-pub struct Emitted {
-    /// Number of frames written.
-    pub packets: u8,
-    /// A frame was cut.
-    pub cut: bool,
-    /// A frame was dropped.
-    pub kept_back: bool,
-}
 
 /// Writes the record if it is written as it was read, and otherwise the frames of the outbox, each
 /// with the record's time. Reports cuts and drops in its entry.
@@ -157,26 +146,6 @@ fn write_cut<K: Sink>(
     Ok(emitted)
 }
 
-// Adds the report on one more frame.
-fn joined(emitted: Emitted, one: Emitted) -> Emitted
-    requires { emitted.packets + one.packets < 256 }
-    ensures packets { result.packets ≡ emitted.packets + one.packets }
-    ensures cut { result.cut ≡ (emitted.cut || one.cut) }
-    ensures kept_back { result.kept_back ≡ (emitted.kept_back || one.kept_back) }
-{
-    Emitted {
-        packets: emitted.packets + one.packets,
-        cut: either(emitted.cut, one.cut),
-        kept_back: either(emitted.kept_back, one.kept_back),
-    }
-}
-
-fn either(a: bool, b: bool) -> bool
-    ensures { result ≡ (a || b) }
-{
-    a || b
-}
-
 // Writes what is written for a frame with an MTU, and returns a report on it.
 fn write_one<K: Sink>(
     frame: &[u8],
@@ -248,36 +217,4 @@ fn write_segments<K: Sink>(
         count += 1;
     }
     Ok(count)
-}
-
-// Enters the report on the record's frames in an entry.
-fn tell_cut(emitted: Emitted, entry: &mut Entry)
-    requires { length entry.old.rules.items ≤ MAX_NAMED }
-    ensures { plain entry.new ≡ spec.entry_cut emitted.cut emitted.kept_back emitted.packets (plain entry.old) }
-{
-    entry.packets = emitted.packets;
-    if emitted.cut {
-        entry.rules.push(Rule::ECut);
-        entry.verdict = Verdict::Fix;
-    }
-    if emitted.kept_back {
-        entry.rules.push(Rule::EMtu);
-        entry.verdict = Verdict::Drop;
-    }
-}
-
-/// Proves that the octets of frames are below 256.
-pub fn frames_have_octets(out: &Outbox)
-    ensures { All AreOctets out.now }
-{
-    for index in 0..out.frames() {
-        have_octets(out.frame(index));
-    }
-}
-
-/// Proves that the octets of a buffer are below 256.
-pub fn have_octets(bytes: &[u8])
-    ensures { (at : ℕ) → slice_index bytes.now at < 2 ^ 8 }
-{
-    let _octets = bytes;
 }

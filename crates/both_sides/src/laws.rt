@@ -1,24 +1,18 @@
 //! Laws of the traces of two engines in sequence, of the traces of runs, and of the outputs for
 //! them.
-ghost use Rattle.both_sides.specs.WrittenTrace.{AgreesWhole, LawfulIsWrittenSoundly, MissesNothingWhole, ReadsWhole, WrittenWhole};
 ghost use Rattle.both_sides.specs.EngineLaws.{BothAgree, FramesGoThrough};
 ghost use Rattle.both_sides.specs.RunLaws.{LawfulRunsAreOne, OnePutsItsTrace, RunsAreWrittenSoundly, RunsBegin, RunsGoOn, TwoPutTheirMirror};
 ghost use Rattle.both_sides.specs.BroughtOctets.{RunsAreBrought, RunsReadRecords};
 ghost use Rattle.both_sides.specs.RecordedHost.{ErasOfRunsGoOn, RunsWereReadSo};
 
-use emit_mtu::laws::{
-    cut_packets_are_of_the_stream, cut_packets_tell_one_stream, plain_packets_go_out,
-    segments_are_plain, segments_carry_the_payload, segments_fit,
-};
 use ip_rules::laws::{anew_is_packet, datagrams_are_known};
 use norm_engine::laws::{
-    items_go_out, lawful_agrees, lawful_clashes_are_real, lawful_eras_go_on,
-    lawful_fragment_clashes_are_real, lawful_invents_nothing, lawful_is_one,
-    lawful_is_plain_inwards, lawful_is_short, lawful_is_within, lawful_keeps_clean,
-    lawful_misses_nothing, lawful_reads_one_stream, lawful_stays_near_acks, lawful_tells_streams,
-    unchanged_traces_were_read_so,
+    lawful_agrees, lawful_clashes_are_real, lawful_eras_go_on, lawful_fragment_clashes_are_real,
+    lawful_invents_nothing, lawful_is_one, lawful_is_plain_inwards, lawful_is_short,
+    lawful_is_within, lawful_is_written_soundly, lawful_keeps_clean, lawful_misses_nothing,
+    lawful_reads_one_stream, unbounded_is_written_whole, unchanged_traces_were_read_so,
+    written_clashes_are_real,
 };
-use receiver_model::laws::{members_agree, members_read_parts, monitors_miss_nothing};
 use tcp_norm::laws::{packets_are_its_own, packets_are_plain};
 
 /// Proves that each frame which the first engine writes for a record that does not go outwards
@@ -65,47 +59,10 @@ pub fn lawful_runs_are_one()
     lawful_is_one();
 }
 
-/// Proves that without an MTU what is written of a trace is the trace. So receivers agree on what
-/// is written exactly if they agree on the trace. The same applies to the parts of one stream that
-/// they read, and to monitors, which miss nothing.
-pub fn unbounded_is_written_whole()
-    ensures whole { WrittenWhole }
-    ensures agree { AgreesWhole }
-    ensures reads { ReadsWhole }
-    ensures monitor { MissesNothingWhole }
-{}
-
-/// Proves of what is written of each sound trace: a clean record has its payload, in one frame or
-/// in segments, unless a frame of the record is too long and dropped. Receivers agree on it and
-/// read parts of one stream. Before the first record and after each a monitor has missed nothing.
-/// No frame of it is too long. Each frame written inwards is plain, except ARP. No more is held
-/// than the settings allow.
-pub fn lawful_is_written_soundly()
-    ensures { LawfulIsWrittenSoundly }
-{
-    items_go_out();
-    lawful_keeps_clean();
-    lawful_is_within();
-    lawful_agrees();
-    lawful_tells_streams();
-    lawful_is_plain_inwards();
-    lawful_is_short();
-    segments_fit();
-    segments_are_plain();
-    segments_carry_the_payload();
-    plain_packets_go_out();
-    cut_packets_tell_one_stream();
-    members_agree();
-    lawful_reads_one_stream();
-    cut_packets_are_of_the_stream();
-    members_read_parts();
-    lawful_stays_near_acks();
-    monitors_miss_nothing();
-}
-
-/// Proves the same of each lawful run by one engine. In a run by two engines clean records keep
-/// their payload in each trace, and no more is held in either than the settings allow. Receivers
-/// agree on either side and read parts of one stream, and a monitor there misses nothing.
+/// Proves of each lawful run by one engine what `norm_engine::laws::lawful_is_written_soundly`
+/// proves of its trace. In a run by two engines clean records keep their payload in each trace, and
+/// no more is held in either than the settings allow. Receivers agree on either side and read parts
+/// of one stream, and a monitor there misses nothing.
 pub fn runs_are_written_soundly()
     ensures { RunsAreWrittenSoundly }
 {
@@ -132,6 +89,7 @@ pub fn runs_invent_nothing()
     lawful_invents_nothing();
     lawful_clashes_are_real();
     lawful_fragment_clashes_are_real();
+    written_clashes_are_real();
 }
 
 /// Proves of each lawful run that receivers of the written packets read only what records brought.

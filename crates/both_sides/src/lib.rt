@@ -12,12 +12,12 @@
 //!
 //! Proved of `Relay::relay`: all frames that the record has are written, and then its lines; if a
 //! sink fails, a prefix of these. The engines then represent the run with this record, and what is
-//! written for it is what the definitions say. Laws (`laws`): records have one lawful run. Without
-//! `--mtu` one engine writes its trace itself; two engines write the frames of the second trace. In
-//! a lawful run clean records keep their payload, with `--mtu` in one frame or in segments, unless
-//! a frame is too long and cannot be cut. No more is held than the settings allow. Receivers agree
-//! on each protected side. Each frame written inwards is plain, except ARP, and none has more than
-//! 65,549 octets.
+//! written for it is what the definitions say. Laws (`laws`): records have one lawful run. One
+//! engine writes its trace, cut for the MTU as `norm_engine` defines; two engines write the frames
+//! of the second trace. In a lawful run clean records keep their payload, with `--mtu` in one frame
+//! or in segments, unless a frame is too long and cannot be cut. No more is held than the settings
+//! allow. Receivers agree on each protected side. Each frame written inwards is plain, except ARP,
+//! and none has more than 65,549 octets.
 //!
 //! Choices: the record of a frame has the time of the record that the frame was written for, its
 //! own length as original length, and no side. A frame is read from the outbox that it was written

@@ -8,13 +8,14 @@ ghost use Rattle.both_sides.specs.Sinks.{sinks_of};
 ghost use Rattle.both_sides.specs.working.RecordEffects.{HasRead};
 
 use crate::RelayFault;
-use crate::cut::{frames_have_octets, have_octets, write_item};
+use crate::cut::write_item;
 use crate::relay::write_line;
 use crate::room::Room;
 use edge_io::Sink;
 use emit_mtu::laws::{plain_packets_go_out, segments_fit};
 use norm_engine::Engine;
 use norm_engine::laws::{items_are_counted, items_go_out};
+use norm_engine::written::{frames_have_octets, have_octets};
 use pcap_file::{Head, Record};
 
 /// Judges one record into the entry, writes its frames and its line, and returns the number of

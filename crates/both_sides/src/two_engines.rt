@@ -12,12 +12,13 @@ ghost use Rattle.both_sides.specs.working.FrameAnswers.{Answers, IsJudged, line_
 ghost use Rattle.both_sides.specs.Sinks.{sinks_of};
 ghost use Rattle.both_sides.specs.working.RecordEffects.{HaveRead};
 
-use crate::cut::{have_octets, write_frames};
+use crate::cut::write_frames;
 use crate::relay::{LINE, write_answer, write_line};
 use crate::room::Room;
 use crate::{Both, RelayFault};
 use edge_io::{Failed, Outbox, Sink};
 use norm_engine::laws::items_are_counted;
+use norm_engine::written::have_octets;
 use pcap_file::{Head, Record, WriteFault};
 use rule_book::Entry;
 

@@ -11,7 +11,7 @@ use Rattle.norm_engine.specs.TraceLaws.{IsAlwaysWithin}
 use Rattle.norm_engine.specs.SentFrames.{ArePlainInwards, AreReadAlike, HasShortFrames}
 use Rattle.both_sides.specs.EngineLaws.{InwardGoesThrough}
 use Rattle.both_sides.specs.Traces.{mirrored}
-use Rattle.both_sides.specs.WrittenTrace.{AgreeAsWritten, CleanIsWritten, MissesNothingAsWritten, NoneIsLong, ReadsOneStreamAsWritten, written}
+use Rattle.norm_engine.specs.WrittenTrace.{AgreeAsWritten, CleanIsWritten, MissesNothingAsWritten, NoneIsLong, ReadsOneStreamAsWritten, written}
 use Rattle.both_sides.specs.RunTraces.{RunTrace, one, two}
 
 -- In each era any two receivers of the family that start at the same offset agree: the stream of

@@ -3,7 +3,7 @@
 use Rattle.std.specs.Prelude.{◌≡◌, ℕ, false, List, Option, None}
 use Rattle.norm_settings.specs.SettingValues.{PlainSettings}
 use Rattle.norm_engine.specs.RecordedHost.{UnchangedWasReadSo}
-use Rattle.both_sides.specs.WrittenTrace.{written}
+use Rattle.norm_engine.specs.WrittenTrace.{written}
 use Rattle.both_sides.specs.RecordedHost.{RunErasGoOn}
 use Rattle.both_sides.specs.RunTraces.{trace_in}
 use Rattle.bridge_run.specs.Theorem.{Normalized}

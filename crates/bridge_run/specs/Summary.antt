@@ -15,10 +15,9 @@ use Rattle.rule_book.specs.Entries.{PlainEntry}
 use Rattle.rule_book.specs.LoadText.{load_text}
 use Rattle.norm_settings.specs.SettingValues.{PlainSettings, standard}
 use Rattle.norm_settings.specs.AskedCommand.{asked, load}
-use Rattle.norm_engine.specs.Items.{Item, packets}
+use Rattle.norm_engine.specs.Items.{Item, packets, frame_count}
 use Rattle.norm_engine.specs.Trace.{Lawful}
 use Rattle.load_make.specs.LoadRecords.{Generated}
-use Rattle.both_sides.specs.Frames.{frame_count}
 use Rattle.edge_io.specs.SeenEnds.{Seen}
 use Rattle.bridge_run.specs.declared.tally.RuleCount.{RuleCount}
 use Rattle.bridge_run.specs.StopReasons.{Told, memory_line}

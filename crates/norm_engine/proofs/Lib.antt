@@ -19,3 +19,7 @@ pub mod SegmentPackets
 pub mod Messages
 pub mod RecordedPackets
 pub mod EraPairs
+pub mod WrittenFrames
+pub mod WrittenItems
+pub mod WrittenReceivers
+pub mod WrittenClashes

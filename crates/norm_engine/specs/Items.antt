@@ -1,6 +1,6 @@
 -- Items, and the times of records (this project's profile). Traces and histories are lists of items
 -- with the newest at the head.
-use Rattle.std.specs.Prelude.{ℕ, max, List, [], ◌∷◌, map}
+use Rattle.std.specs.Prelude.{ℕ, ◌+◌, max, List, [], ◌∷◌, length, map}
 use Rattle.pcap_file.specs.Records.{Packet}
 use Rattle.rule_book.specs.Entries.{PlainEntry}
 
@@ -16,6 +16,11 @@ packets trace = map (λ item. item.packet) trace
 
 abbrev pub entries : List Item → List PlainEntry
 entries trace = map (λ item. item.entry) trace
+
+-- the number of frames written
+abbrev pub frame_count : List Item → ℕ
+frame_count [] = 0
+frame_count (item ∷ older) = frame_count older + length item.frames
 
 -- the greatest time, in seconds, of all records so far
 abbrev pub now_at : List Item → ℕ

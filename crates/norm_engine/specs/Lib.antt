@@ -17,4 +17,5 @@ pub mod GivenOctets
 pub mod HeldFragments
 pub mod RecordedHost
 pub mod TwoEras
+pub mod WrittenTrace
 pub mod working

@@ -2,3 +2,4 @@ pub mod FirstRow
 pub mod DatagramJudgment
 pub mod RecordJudgment
 pub mod EngineAnswers
+pub mod FrameReports

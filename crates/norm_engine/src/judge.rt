@@ -4,7 +4,7 @@ ghost use Rattle.norm_settings.specs.SettingValues.{PlainSettings, plain_setting
 ghost use Rattle.pcap_file.specs.RecordReading.{shown};
 ghost use Rattle.icmp_codec.specs.QuotedPacket.{quoted_in};
 ghost use Rattle.tcp_codec.specs.HeaderFields.{is_judged};
-ghost use Rattle.ip_rules.specs.Datagrams.{AreOctets, datagram_with, goes_in};
+ghost use Rattle.ip_rules.specs.Datagrams.{datagram_with, goes_in};
 ghost use Rattle.tcp_norm.specs.Calls.{Call};
 ghost use Rattle.tcp_norm.specs.TableAndStore as flows;
 ghost use Rattle.reassembly.specs.DatagramFragments.{fragment_of, IsPiece};
@@ -20,6 +20,7 @@ ghost use Rattle.norm_engine.specs.working.EngineAnswers as spec;
 ghost use Rattle.wire_base.specs.declared.limits.TheConstants.{MAX_PAYLOAD};
 ghost use Rattle.rule_book.specs.declared.entry.TheConstants.{MAX_NAMED};
 
+use crate::written::have_octets;
 use dgram_rules::laws::{datagrams_tell_the_rows, others_have_no_row};
 use dgram_rules::{DgramJudged, judge_icmp, judge_udp};
 use icmp_codec::quoted;
@@ -314,11 +315,4 @@ fn rule_of(fault: TcpFault) -> Rule
         TcpFault::Flags => Rule::TFlags,
         TcpFault::Options => Rule::TOptBad,
     }
-}
-
-// Proves that the octets of a buffer are below 256.
-fn have_octets(bytes: &[u8])
-    ensures { AreOctets bytes.now }
-{
-    let _octets = bytes;
 }

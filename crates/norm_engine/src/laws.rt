@@ -1,4 +1,4 @@
-//! Laws of lawful traces.
+//! Laws of lawful traces, and of what is written of them.
 ghost use Rattle.norm_engine.specs.BroughtOctets.{ConsistentIsWithoutClash, LawfulClashesAreReal, LawfulInventsNothing};
 ghost use Rattle.norm_engine.specs.GivenOctets.{LawfulReadsRecords};
 ghost use Rattle.norm_engine.specs.HeldFragments.{LawfulFragmentClashesAreReal, LawfulJoinsHeld};
@@ -8,8 +8,13 @@ ghost use Rattle.norm_engine.specs.OutgoingFrames.{ItemsGoOut};
 ghost use Rattle.norm_engine.specs.RecordedHost.{LawfulWasReadSo};
 ghost use Rattle.norm_engine.specs.TwoEras.{LawfulErasGoOn};
 ghost use Rattle.norm_engine.specs.MonitorMemory.{WaitingIsFew, WaitingIsKept};
+ghost use Rattle.norm_engine.specs.WrittenTrace.{AgreesWhole, LawfulIsWrittenSoundly, MissesNothingWhole, ReadsWhole, WrittenClashesAreReal, WrittenFragmentClashesAreReal, WrittenReadsRecords, WrittenWhole};
 ghost use Rattle.norm_engine.specs.SentFrames.{LawfulIsPlainInwards, LawfulIsShort, PlainIsReadAlike};
 
+use emit_mtu::laws::{
+    cut_packets_are_of_the_stream, cut_packets_tell_one_stream, plain_packets_go_out,
+    segments_are_plain, segments_carry_the_payload, segments_fit,
+};
 use era_agreement::laws::{
     emitted_agrees, emitted_misses_nothing, emitted_reads_one_stream, emitted_stays_near_acks,
     emitted_tells_one_stream, eras_are_read_as_one,
@@ -17,7 +22,9 @@ use era_agreement::laws::{
 use era_state::laws::written_remains;
 use ip_rules::laws::{anew_is_packet, datagrams_are_known};
 use reassembly::laws::answered_is_within;
-use receiver_model::laws::plain_packets_are_read_alike;
+use receiver_model::laws::{
+    members_agree, members_read_parts, monitors_miss_nothing, plain_packets_are_read_alike,
+};
 use tcp_codec::laws::{mended_say_the_same, options_are_cleaned, segments_are_read_back};
 use tcp_norm::laws::{
     calls_are_emitted, clashes_are_real, clean_keeps_payload, flows_are_bounded, held_is_bounded,
@@ -302,4 +309,63 @@ pub fn lawful_eras_go_on()
 {
     lawful_is_emitted();
     eras_are_read_as_one();
+}
+
+/// Proves that without an MTU what is written of a trace is the trace. So receivers agree on what
+/// is written exactly if they agree on the trace. The same applies to the parts of one stream that
+/// they read, and to monitors, which miss nothing.
+pub fn unbounded_is_written_whole()
+    ensures whole { WrittenWhole }
+    ensures agree { AgreesWhole }
+    ensures reads { ReadsWhole }
+    ensures monitor { MissesNothingWhole }
+{}
+
+/// Proves of what is written of each sound trace: a clean record has its payload, in one frame or
+/// in segments, unless a frame of the record is too long and dropped. Receivers agree on it and
+/// read parts of one stream. Before the first record and after each a monitor has missed nothing.
+/// No frame of it is too long. Each frame written inwards is plain, except ARP. No more is held
+/// than the settings allow.
+pub fn lawful_is_written_soundly()
+    ensures { LawfulIsWrittenSoundly }
+{
+    items_go_out();
+    lawful_keeps_clean();
+    lawful_is_within();
+    lawful_agrees();
+    lawful_tells_streams();
+    lawful_is_plain_inwards();
+    lawful_is_short();
+    segments_fit();
+    segments_are_plain();
+    segments_carry_the_payload();
+    plain_packets_go_out();
+    cut_packets_tell_one_stream();
+    members_agree();
+    lawful_reads_one_stream();
+    cut_packets_are_of_the_stream();
+    members_read_parts();
+    lawful_stays_near_acks();
+    monitors_miss_nothing();
+}
+
+/// Proves of each sound trace that the lines as they are written name T_CLASH exactly if their
+/// record contradicts the stream of an era, and F_CLASH exactly if it contradicts a held fragment.
+pub fn written_clashes_are_real()
+    ensures clashes { WrittenClashesAreReal }
+    ensures fragment_clashes { WrittenFragmentClashesAreReal }
+{
+    lawful_clashes_are_real();
+    lawful_fragment_clashes_are_real();
+}
+
+/// Proves of each sound trace that receivers of the packets that are written read only what records
+/// brought. If no record of an era differs from an earlier one at an offset at or past Acked, no
+/// line of it names T_CLASH, and receivers read what the sender gave.
+pub fn written_reads_records()
+    ensures { WrittenReadsRecords }
+{
+    lawful_invents_nothing();
+    written_clashes_are_real();
+    lawful_is_written_soundly();
 }

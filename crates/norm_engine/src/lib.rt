@@ -19,11 +19,20 @@
 //! recorded, in all or between one pair of addresses, and two eras are read as one if the second
 //! goes on where the first ended. The laws on traces assume records of octets and at most 254
 //! routers; `bridge_run` proves both of each run.
+//!
+//! What is written of a trace with an MTU is the trace with its long frames cut or dropped, and with
+//! its entries changed accordingly; `written::tell_cut` makes that change of an entry. Without an
+//! MTU it is the trace itself. Laws on what is written of a lawful trace: clean records keep their
+//! payload, in one frame or in segments, unless a frame is too long and cannot be cut. Receivers
+//! agree, and read parts of one stream, which records brought. At each history a monitor has missed
+//! nothing. No frame is too long for the MTU or for a capture, and each frame written inwards is
+//! plain, except ARP. T_CLASH and F_CLASH are as exact in the lines that are written.
 #![tactic(auto)]
 
 pub mod engine;
 mod judge;
 pub mod laws;
 mod send;
+pub mod written;
 
 pub use engine::{Engine, blank_entry};

@@ -15,13 +15,13 @@ use Rattle.rule_book.proofs.Lines.{all-append}
 use Rattle.norm_settings.specs.OptionTable.{number_within}
 use Rattle.wire_base.specs.Prefixes.{is_number, number_of}
 use Rattle.norm_settings.specs.SettingValues.{PlainSettings}
-use Rattle.norm_engine.specs.Items.{Item, entries, packets}
+use Rattle.norm_engine.specs.Items.{Item, entries, packets, frame_count}
 use Rattle.norm_engine.specs.CleanRecords.{HaveOctets}
 use Rattle.norm_engine.specs.TraceLaws.{ItemsAreCounted}
 use Rattle.norm_engine.specs.SentFrames.{HasShortFrames}
 use Rattle.norm_engine.specs.Trace.{Lawful}
-use Rattle.both_sides.specs.WrittenTrace.{WrittenWhole, written}
-use Rattle.both_sides.specs.Frames.{frame_count, frames_octets, item_octets}
+use Rattle.norm_engine.specs.WrittenTrace.{WrittenWhole, written}
+use Rattle.both_sides.specs.Frames.{frames_octets, item_octets}
 use Rattle.both_sides.specs.RunLaws.{OnePutsItsTrace}
 use Rattle.both_sides.specs.RecordOutputs.{Put, count_put, octets_put, puts, report_of}
 use Rattle.both_sides.specs.RunTraces.{LawfulRun, RunHasOctets, RunTrace, one, packets_of, two}

@@ -21,7 +21,7 @@ use Rattle.ip_rules.specs.RuleRows.{carries_ip}
 use Rattle.norm_engine.specs.Agreement.{AtEachHistory}
 use Rattle.norm_engine.specs.Items.{Item}
 use Rattle.norm_engine.specs.RecordedHost.{AddressPair, AreWrittenAsRecorded, IsOfPair, PassInwards, WasReadSo, UnchangedWasReadSo, any_record, has_addresses, is_readable, may_have_pair}
-use Rattle.both_sides.specs.WrittenTrace.{written}
+use Rattle.norm_engine.specs.WrittenTrace.{written}
 use Rattle.both_sides.specs.RunTraces.{LawfulRun, RunTrace, one, trace_in, two}
 use Rattle.bridge_run.specs.RecordedHost.{NormalizedWasReadSo}
 use Rattle.bridge_run.specs.Theorem.{Normalized}

@@ -5,7 +5,7 @@ use Rattle.norm_settings.specs.SettingValues.{PlainSettings}
 use Rattle.receiver_model.specs.StreamParts.{PartsMeet}
 use Rattle.norm_engine.specs.Agreement.{ReadsOneStream}
 use Rattle.norm_engine.specs.Items.{Item}
-use Rattle.both_sides.specs.WrittenTrace.{ReadsOneStreamAsWritten}
+use Rattle.norm_engine.specs.WrittenTrace.{ReadsOneStreamAsWritten}
 use Rattle.both_sides.specs.RunTraces.{RunTrace, one, two}
 use Rattle.bridge_run.specs.Promises.{ReceiversReadOneStream}
 use Rattle.run_laws.specs.MeetingReceivers.{RunTwoMeet, TwoMeet, TwoMeetAsWritten}

@@ -14,7 +14,7 @@ use Rattle.rule_book.proofs.Lines.{all-append}
 use Rattle.norm_settings.specs.SettingValues.{PlainSettings}
 use Rattle.norm_engine.specs.Items.{Item, packets}
 use Rattle.norm_engine.specs.SentFrames.{HasShortFrames}
-use Rattle.both_sides.specs.WrittenTrace.{written}
+use Rattle.norm_engine.specs.WrittenTrace.{written}
 use Rattle.both_sides.specs.RecordOutputs.{Put, answers_frames, octets_put, puts, puts_by_two, put_octets}
 use Rattle.both_sides.specs.RunTraces.{RunTrace, one, packets_of, two}
 use Rattle.bridge_run.specs.Promises.{FramesFit, HaveTimes}

@@ -18,7 +18,7 @@ use Rattle.run_laws.proofs.Traces.{IsUnchanged, AreGood, good, good_behind}
 use Rattle.wire_base.specs.declared.address.Link.{Link}
 use Rattle.rule_book.specs.Text.{entry_text}
 use Rattle.norm_settings.specs.SettingValues.{PlainSettings}
-use Rattle.both_sides.specs.WrittenTrace.{item_written, written}
+use Rattle.norm_engine.specs.WrittenTrace.{item_written, written}
 use Rattle.both_sides.specs.RecordOutputs.{Put, answers_frames, answers_text, puts, puts_by_two, text_put}
 use Rattle.both_sides.specs.RunTraces.{RunTrace, one, packets_of as run_packets, two}
 use Rattle.run_view.specs.Items as view

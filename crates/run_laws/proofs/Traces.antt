@@ -20,10 +20,10 @@ use Rattle.emit_mtu.specs.CutLaws.{AreFew}
 use Rattle.emit_mtu.specs.LongFrames.{e_cut, e_mtu}
 use Rattle.emit_mtu.specs.CutStreams.{PlainHeadersAreWhole, frames_of}
 use Rattle.emit_mtu.specs.declared.long.LongKind.TheVariants.{Fits, Cut, Drop}
-use Rattle.both_sides.specs.WrittenTrace.{HaveFrameOctets, cuts_some, frames_written, item_written, keeps_some_back, rules_cut, verdict_cut, written}
+use Rattle.norm_engine.specs.WrittenTrace.{HaveFrameOctets, cuts_some, frames_written, item_written, keeps_some_back, rules_cut, verdict_cut, written}
 use Rattle.both_sides.specs.RunLaws.{TwoPutTheirMirror}
-use Rattle.both_sides.proofs.Frames.{all_sent, written_few}
-use Rattle.both_sides.proofs.Outputs.{packets_written, version_written}
+use Rattle.norm_engine.proofs.WrittenFrames.{all_sent, written_few}
+use Rattle.norm_engine.proofs.WrittenItems.{packets_written, version_written}
 use Rattle.run_audit.specs.LawfulFiles.{EntriesFit, frames_written as frames_of_trace}
 use Rattle.run_view.specs.ViewLaws.{RunsAreViewed}
 use Rattle.run_laws.specs.CaptureReadBack.{RunsAreReadBack}

@@ -9,10 +9,9 @@ use Rattle.capture_input.specs.Inputs.{IsInput}
 use Rattle.rule_book.specs.declared.last.Last.TheVariants.{End}
 use Rattle.rule_book.specs.Text.{last_text}
 use Rattle.norm_settings.specs.SettingValues.{AreInRange, PlainSettings}
-use Rattle.norm_engine.specs.Items.{Item}
+use Rattle.norm_engine.specs.Items.{Item, frame_count}
 use Rattle.norm_engine.specs.TraceLaws.{IsSound}
-use Rattle.both_sides.specs.WrittenTrace.{written}
-use Rattle.both_sides.specs.Frames.{frame_count}
+use Rattle.norm_engine.specs.WrittenTrace.{written}
 use Rattle.both_sides.specs.Outputs.{heading as run_heading}
 use Rattle.both_sides.specs.RecordOutputs.{Put, count_put, puts}
 use Rattle.both_sides.specs.RunTraces.{LawfulRun, RunHasOctets, RunTrace, one, packets_of as run_packets, two}

@@ -11,7 +11,7 @@ use Rattle.era_state.specs.Quantities.{base_of}
 use Rattle.era_agreement.specs.SentPackets.{inward_packets, inward_places, written_in}
 use Rattle.norm_engine.specs.Agreement.{sent_in}
 use Rattle.norm_engine.specs.Items.{Item}
-use Rattle.both_sides.specs.WrittenTrace.{places_written, written}
+use Rattle.norm_engine.specs.WrittenTrace.{places_written, written}
 use Rattle.both_sides.specs.RunTraces.{RunTrace, one, two}
 use Rattle.bridge_run.specs.Theorem.{Normalized}
 

@@ -7,7 +7,7 @@ use Rattle.pcap_file.specs.Records.{Packet}
 use Rattle.norm_settings.specs.SettingValues.{AreInRange, PlainSettings}
 use Rattle.norm_engine.specs.Items.{Item}
 use Rattle.norm_engine.specs.RecordedHost.{AddressPair, AreWrittenAsRecorded, IsOfPair, WasReadSo, any_record, may_have_pair}
-use Rattle.both_sides.specs.WrittenTrace.{written}
+use Rattle.norm_engine.specs.WrittenTrace.{written}
 use Rattle.both_sides.specs.RunTraces.{trace_in}
 use Rattle.bridge_run.specs.Theorem.{Normalized}
 use Rattle.run_view.specs.ShownEvents.{Event}

@@ -5,10 +5,12 @@ ghost use Rattle.run_laws.specs.MeetingReceivers.{ReceiversOfRunsMeet};
 ghost use Rattle.run_laws.specs.CaptureReadBack.{RunsAreReadBack};
 ghost use Rattle.run_laws.specs.ViewedRuns.{RunsAreViewedWhole};
 
-use both_sides::laws::{one_puts_its_trace, two_put_their_mirror, unbounded_is_written_whole};
+use both_sides::laws::{one_puts_its_trace, two_put_their_mirror};
 use bridge_run::laws::unchanged_captures_were_read_so;
 use emit_mtu::laws::{plain_packets_go_out, segments_fit};
-use norm_engine::laws::{items_are_counted, items_go_out, lawful_keeps_clean};
+use norm_engine::laws::{
+    items_are_counted, items_go_out, lawful_keeps_clean, unbounded_is_written_whole,
+};
 use pcap_file::laws::{head_is_read_back, record_is_read_back};
 use receiver_model::laws::parts_meet;
 use run_audit::laws::{answers_are_one, entries_fit, items_are_written_in_order, written_is_yes};

@@ -11,7 +11,7 @@ use Rattle.both_sides.specs.TwoEngines.{Joined}
 use Rattle.both_sides.specs.TwoEngines as double
 use Rattle.both_sides.specs.Traces.{records_for}
 use Rattle.both_sides.specs.declared.fault.RelayFault.{RelayFault}
-use Rattle.both_sides.specs.WrittenTrace.{FramesHaveOctets, item_written}
+use Rattle.norm_engine.specs.WrittenTrace.{FramesHaveOctets, item_written}
 use Rattle.both_sides.specs.RecordOutputs.{put_by_one, put_by_two}
 use Rattle.both_sides.specs.RunTraces.{answers}
 use Rattle.both_sides.specs.Sinks.{Sinks}

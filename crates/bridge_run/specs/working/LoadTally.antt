@@ -2,8 +2,7 @@
 use Rattle.std.specs.Prelude.{◌≡◌, ℕ, ◌*◌, ◌≤◌, List, [], ◌∷◌, ◌++◌, length, map}
 use Rattle.rule_book.specs.declared.load.LoadLine.{LoadLine}
 use Rattle.rule_book.specs.declared.load.LoadLine.TheVariants as lines
-use Rattle.norm_engine.specs.Items.{Item}
-use Rattle.both_sides.specs.Frames.{frame_count}
+use Rattle.norm_engine.specs.Items.{Item, frame_count}
 use Rattle.bridge_run.specs.declared.tally.Tally.{Tally}
 use Rattle.bridge_run.specs.Summary.{eras_begun, rules_named, rule_counts, rule_line, summary_lines, IsTraceOf}
 

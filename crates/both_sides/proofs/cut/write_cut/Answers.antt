@@ -1,7 +1,8 @@
 use Rattle.std.proofs.Common.{rules}
 use Rattle.std.proofs.lemmas.Result.{err_from_is_err_and}
 use Rattle.pcap_file.specs.RecordReading.{shown}
-use Rattle.both_sides.proofs.Outputs.{octets_more, octets_part, some_written, sum_few, tells_more}
+use Rattle.norm_engine.proofs.WrittenItems.{some_written, sum_few, tells_more}
+use Rattle.both_sides.proofs.Outputs.{octets_more, octets_part}
 use Rattle.both_sides.proofs.cut.write_cut.Goals as goal
 
 pub returns-in_err-one-clause-octets : goal.returns-in_err-one-clause-octets

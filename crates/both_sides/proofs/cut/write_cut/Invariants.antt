@@ -1,8 +1,8 @@
 use Rattle.std.proofs.Common.{◌≡◌, take, Some}
 use Rattle.std.specs.Io.KnownBytes.{Appends}
 use Rattle.pcap_file.specs.RecordReading.{shown}
-use Rattle.both_sides.specs.working.FrameReports.{TellsAll}
-use Rattle.both_sides.specs.WrittenTrace.{frames_written}
+use Rattle.norm_engine.specs.working.FrameReports.{TellsAll}
+use Rattle.norm_engine.specs.WrittenTrace.{frames_written}
 use Rattle.both_sides.specs.Frames.{frame_octets}
 use Rattle.both_sides.proofs.cut.write_cut.Given as goal
 

@@ -1,5 +1,5 @@
 use Rattle.std.proofs.Common.{sym, ◌∙◌}
-use Rattle.both_sides.proofs.Outputs.{tells_cut, tells_drop}
+use Rattle.norm_engine.proofs.WrittenItems.{tells_cut, tells_drop}
 use Rattle.both_sides.proofs.cut.write_one.Goals as goal
 
 pub returns-in_ok-packets-in-Cut-clause-tells : goal.returns-in_ok-packets-in-Cut-clause-tells

@@ -6,9 +6,10 @@ use Rattle.rule_book.specs.Entries.{PlainEntry, IsOfVersion, plain}
 use Rattle.rule_book.specs.Text.{entry_text}
 use Rattle.norm_engine.specs.Trace.{item_of}
 use Rattle.norm_engine.specs.EngineState.{frames_given}
-use Rattle.both_sides.specs.WrittenTrace.{item_written}
+use Rattle.norm_engine.specs.WrittenTrace.{item_written}
 use Rattle.both_sides.specs.Frames.{frame_octets}
-use Rattle.both_sides.proofs.Outputs.{part_of, whole_of, capture_broke, given_both, report_broke, each_given, each_has, entry_out, few_out, frames_out, if_done, named_out, octets_out, packets_written, sent_out, version_written, frames_some, if_failed}
+use Rattle.norm_engine.proofs.WrittenItems.{each_given, each_has, entry_out, few_out, frames_out, named_out, octets_out, packets_written, sent_out, version_written}
+use Rattle.both_sides.proofs.Outputs.{part_of, whole_of, capture_broke, given_both, report_broke, if_done, frames_some, if_failed}
 use Rattle.both_sides.proofs.one_engine.relay_one.Goals as goal
 
 pub write_item-requires-clause-ready : goal.write_item-requires-clause-ready

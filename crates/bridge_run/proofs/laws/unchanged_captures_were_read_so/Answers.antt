@@ -3,7 +3,7 @@ use Rattle.std.proofs.lemmas.Bool.{false≢true}
 use Rattle.wire_base.specs.declared.address.Link.{Link}
 use Rattle.norm_settings.specs.SettingValues.{PlainSettings}
 use Rattle.norm_engine.specs.RecordedHost.{UnchangedWasReadSo}
-use Rattle.both_sides.specs.WrittenTrace.{written}
+use Rattle.norm_engine.specs.WrittenTrace.{written}
 use Rattle.both_sides.specs.RunTraces.{LawfulRun, RunHasOctets, RunTrace, one, trace_in, two}
 use Rattle.both_sides.specs.RecordedHost.{RunsWereReadSo}
 use Rattle.bridge_run.specs.RecordedHost.{NormalizedWasReadSo}

@@ -2,7 +2,7 @@
 use Rattle.wire_base.specs.declared.address.Link.{Link}
 use Rattle.norm_settings.specs.SettingValues.{PlainSettings}
 use Rattle.norm_engine.specs.SentFrames.{PlainIsReadAlike}
-use Rattle.both_sides.specs.WrittenTrace.{written}
+use Rattle.norm_engine.specs.WrittenTrace.{written}
 use Rattle.both_sides.specs.RunTraces.{RunTrace, one, two}
 use Rattle.bridge_run.specs.Promises.{InwardArePlain, MessagesAreReadAlike}
 use Rattle.bridge_run.specs.Theorem.{NormalizedIsReadAlike}

@@ -1,7 +1,7 @@
 -- What is written with an MTU of the next link: the lawful trace, with each frame replaced by the
 -- frames written instead, and with its entries changed accordingly (this project's profile).
 -- Without an MTU it is the lawful trace itself.
-use Rattle.std.specs.Prelude.{◌≡◌, ℕ, ℤ, Bool, true, false, List, [], ◌∷◌, ◌++◌, length, map, All, Option, Some, None, if◌then◌else◌}
+use Rattle.std.specs.Prelude.{◌≡◌, ◌↔◌, ℕ, ℤ, Bool, true, false, List, [], ◌∷◌, ◌++◌, length, map, All, Option, Some, None, if◌then◌else◌}
 use Rattle.std.specs.List.{AllByRecursion, flat_map, list_any}
 use Rattle.wire_base.specs.declared.address.Link.{Link}
 use Rattle.rule_book.specs.declared.rule.Rule.{Rule}
@@ -20,6 +20,9 @@ use Rattle.norm_engine.specs.CleanRecords.{KeepsPayload, is_clean, payload_in}
 use Rattle.norm_engine.specs.Agreement as norm_engine
 use Rattle.norm_engine.specs.Agreement.{Agree, AtEachHistory, sent_in}
 use Rattle.norm_engine.specs.TraceLaws.{IsAlwaysWithin, IsSound}
+use Rattle.norm_engine.specs.BroughtOctets.{Contradicts, names_clash}
+use Rattle.norm_engine.specs.GivenOctets.{ReadsItsRecords}
+use Rattle.norm_engine.specs.HeldFragments.{ContradictsHeld, names_fragment_clash}
 use Rattle.norm_engine.specs.SentFrames.{ArePlainInwards, HasShortFrames}
 use Rattle.emit_mtu.specs.FrameParts.{AreOctets}
 use Rattle.emit_mtu.specs.CutLaws as cuts
@@ -179,3 +182,44 @@ abbrev pub LawfulIsWrittenSoundly : Type 0
 LawfulIsWrittenSoundly =
     (settings : PlainSettings) (link : Link) (trace : List Item) → AreInRange settings → IsSound settings link trace → HaveFrameOctets settings.mtu trace
     → IsWrittenSoundly settings link trace
+
+-- T_CLASH is exact in the lines that are written: each names it exactly if its record contradicts
+-- the stream of an era.
+abbrev pub NamesEachClashAsWritten : PlainSettings → Link → List Item → Type 0
+NamesEachClashAsWritten settings link [] = Unit {0}
+NamesEachClashAsWritten settings link (item ∷ older) =
+    NamesEachClashAsWritten settings link older
+    × ((names_clash (item_written settings.mtu link item).entry.rules ≡ true) ↔ Contradicts settings link item older)
+
+-- F_CLASH is exact in the lines that are written: each names it exactly if its record carries a
+-- fragment that contradicts a held one.
+abbrev pub NamesEachFragmentClashAsWritten : PlainSettings → Link → List Item → Type 0
+NamesEachFragmentClashAsWritten settings link [] = Unit {0}
+NamesEachFragmentClashAsWritten settings link (item ∷ older) =
+    NamesEachFragmentClashAsWritten settings link older
+    × ((names_fragment_clash (item_written settings.mtu link item).entry.rules ≡ true) ↔ ContradictsHeld settings link item older)
+
+-- both are so of each sound trace
+abbrev pub WrittenClashesAreReal : Type 0
+WrittenClashesAreReal = (settings : PlainSettings) (link : Link) (trace : List Item) → IsSound settings link trace → NamesEachClashAsWritten settings link trace
+
+abbrev pub WrittenFragmentClashesAreReal : Type 0
+WrittenFragmentClashesAreReal =
+    (settings : PlainSettings) (link : Link) (trace : List Item) → IsSound settings link trace → NamesEachFragmentClashAsWritten settings link trace
+
+-- Receivers of the packets that are written of a trace, cut for the MTU if there is one, read only
+-- what its records brought. If no record of an era differs from an earlier one at an offset at or
+-- past Acked, they read what the sender gave, and no line of the era names T_CLASH.
+abbrev pub ReadsRecordsAsWritten : PlainSettings → Link → List Item → Type 0
+ReadsRecordsAsWritten settings link trace =
+    let sent = sent_in link trace in
+    let lines = written settings link trace in
+    ReadsItsRecords settings link trace lines (λ era base. places_written settings.mtu (inward_places era base sent) (inward_packets era sent))
+    (λ era. inward_packets era (sent_in link lines))
+
+-- This holds for each sound trace under settings in their ranges, whose frames that may be cut are
+-- octets.
+abbrev pub WrittenReadsRecords : Type 0
+WrittenReadsRecords =
+    (settings : PlainSettings) (link : Link) (trace : List Item) → AreInRange settings → IsSound settings link trace → HaveFrameOctets settings.mtu trace
+    → ReadsRecordsAsWritten settings link trace

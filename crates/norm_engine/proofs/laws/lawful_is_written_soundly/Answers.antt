@@ -1,6 +1,6 @@
-use Rattle.both_sides.proofs.Frames.{plain_written, short_written, clean_written, each_goes, none_long}
-use Rattle.both_sides.proofs.Receivers.{StreamLaws, agree_as_written, always_misses, reads_as_written}
-use Rattle.both_sides.proofs.laws.lawful_is_written_soundly.Goals as goal
+use Rattle.norm_engine.proofs.WrittenFrames.{plain_written, short_written, clean_written, each_goes, none_long}
+use Rattle.norm_engine.proofs.WrittenReceivers.{StreamLaws, agree_as_written, always_misses, reads_as_written}
+use Rattle.norm_engine.proofs.laws.lawful_is_written_soundly.Goals as goal
 
 pub returns : goal.returns
 returns c settings link trace range sound octets =

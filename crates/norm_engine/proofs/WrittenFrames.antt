@@ -38,7 +38,7 @@ use Rattle.rule_book.proofs.Lines.{all-append}
 use Rattle.norm_engine.specs.SentFrames.{ArePlainInwards, HasShortFrames, IsPlainInwards}
 use Rattle.norm_engine.proofs.Frames.{frame_few, ip_kind}
 use Rattle.emit_mtu.proofs.Frames.{kind_sized}
-use Rattle.both_sides.specs.WrittenTrace.{AgreesWhole, CleanIsWritten, FramesHaveOctets, HaveFrameOctets, MissesNothingWhole, NoneIsLong, ReadsWhole, WritesPayload, WrittenWhole, cuts_some, frames_written, is_of_cuts, item_written, keeps_some_back, places_written, rules_cut, verdict_cut}
+use Rattle.norm_engine.specs.WrittenTrace.{AgreesWhole, CleanIsWritten, FramesHaveOctets, HaveFrameOctets, MissesNothingWhole, NoneIsLong, ReadsWhole, WritesPayload, WrittenWhole, cuts_some, frames_written, is_of_cuts, item_written, keeps_some_back, places_written, rules_cut, verdict_cut}
 
 -- What is written of a lawful trace.
 

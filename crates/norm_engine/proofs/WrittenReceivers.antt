@@ -29,8 +29,8 @@ use Rattle.emit_mtu.specs.FrameParts.{AreOctets}
 use Rattle.emit_mtu.specs.LongFrames.{is_long, is_marked, long_kind, may_be_cut}
 use Rattle.emit_mtu.specs.CutStreams.{CutIsOfStream, CutStaysNearAcks, CutTellsOneStream, PacketsGoOutAlike, frames_for, frames_of, packets_for, places_for, acks_for}
 use Rattle.emit_mtu.proofs.Frames.{kind_sized, octets_in}
-use Rattle.both_sides.specs.WrittenTrace.{AgreeAsWritten, HaveFrameOctets, MissesNothingAsWritten, ReadsOneStreamAsWritten, item_written, places_written}
-use Rattle.both_sides.proofs.Frames.{InRange, all_flat, same_trace}
+use Rattle.norm_engine.specs.WrittenTrace.{AgreeAsWritten, HaveFrameOctets, MissesNothingAsWritten, ReadsOneStreamAsWritten, item_written, places_written}
+use Rattle.norm_engine.proofs.WrittenFrames.{InRange, all_flat, same_trace}
 use Rattle.emit_mtu.specs.declared.long.LongKind.TheVariants.{Fits, Cut, Drop}
 
 -- ---- the packets of an era

@@ -1,5 +1,5 @@
-use Rattle.both_sides.proofs.Frames.{agrees_whole, misses_whole, reads_whole, written_whole}
-use Rattle.both_sides.proofs.laws.unbounded_is_written_whole.Goals as goal
+use Rattle.norm_engine.proofs.WrittenFrames.{agrees_whole, misses_whole, reads_whole, written_whole}
+use Rattle.norm_engine.proofs.laws.unbounded_is_written_whole.Goals as goal
 
 pub returns-clause-whole : goal.returns-clause-whole
 returns-clause-whole c = written_whole

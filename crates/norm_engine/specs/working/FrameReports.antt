@@ -5,8 +5,8 @@ use Rattle.wire_base.specs.declared.address.Link.{Link}
 use Rattle.emit_mtu.specs.FrameParts.{IsSent}
 use Rattle.emit_mtu.specs.LongFrames.{e_cut, e_mtu}
 use Rattle.emit_mtu.specs.CutStreams.{frames_for}
-use Rattle.both_sides.specs.declared.cut.Emitted.{Emitted}
-use Rattle.both_sides.specs.WrittenTrace.{frames_written, cuts_some, keeps_some_back}
+use Rattle.norm_engine.specs.declared.written.Emitted.{Emitted}
+use Rattle.norm_engine.specs.WrittenTrace.{frames_written, cuts_some, keeps_some_back}
 
 -- the report on one frame: how many frames are written for it, whether it was cut, and whether it
 -- was dropped
