@@ -1,6 +1,6 @@
 -- A fragment of a record: which rule drops it, whether it is held, and its judgment by the answer
 -- to it.
-use Rattle.std.proofs.Common.{◌≡◌, ℕ, ◌-◌, ◌≤◌, ◌<◌, Bool, true, false, cond, ◌&&◌, nat_le, List, ◌∷◌, ◌++◌, length, take, Option, Some, None, refl, sym, ap, ap₂, ◌∙◌, subst, arith, length-take, option_map, is_none, []}
+use Rattle.std.proofs.Common.{◌≡◌, ℕ, ◌≤◌, ◌<◌, Bool, true, false, cond, ◌&&◌, nat_le, List, ◌∷◌, ◌++◌, length, take, Option, Some, None, refl, sym, ap, ap₂, ◌∙◌, subst, arith, length-take, option_map, is_none, []}
 use Rattle.std.specs.Option.{option_or}
 use Rattle.wire_base.specs.declared.address.Link.{Link}
 use Rattle.wire_base.specs.declared.address.Side.{Side}
@@ -34,7 +34,7 @@ use Rattle.norm_engine.proofs.Items.{found_passes}
 use Rattle.norm_engine.proofs.Datagrams.{IsMade, row_of_piece, fragment_by, made_of}
 use Rattle.norm_engine.proofs.Layers.{bare_row}
 use Rattle.norm_engine.proofs.Frames.{kept_packet, payload_fits}
-use Rattle.norm_engine.proofs.Judgments.{StandsIn, few, few_made, kept_as, later_part, not_nil, offset_fits, whole_judged}
+use Rattle.norm_engine.proofs.Judgments.{StandsIn, few_made, kept_as, later_part, not_nil, offset_fits, whole_judged}
 
 -- a fragment
 

@@ -1,6 +1,6 @@
 -- The judgment of a record follows its rules: one without IPv4, one that is dropped, one with a
 -- datagram.
-use Rattle.std.proofs.Common.{◌≡◌, ℕ, ◌-◌, ◌*◌, ◌%◌, ◌≤◌, ◌<◌, Bool, true, false, cond, ◌&&◌, ◌||◌, ◌==◌, not, nat_lt, nat_le, List, ◌∷◌, ◌++◌, length, Option, Some, None, find, filter, refl, sym, ap, ◌∙◌, subst, arith, option_map, is_none, append-nil, length-append, []}
+use Rattle.std.proofs.Common.{◌≡◌, ℕ, ◌*◌, ◌%◌, ◌≤◌, ◌<◌, Bool, true, false, cond, ◌&&◌, ◌||◌, ◌==◌, not, nat_lt, nat_le, List, ◌∷◌, ◌++◌, length, Option, Some, None, find, filter, refl, sym, ap, ◌∙◌, subst, arith, option_map, is_none, append-nil, length-append, []}
 use Rattle.std.specs.Option.{option_or}
 use Rattle.std.proofs.lemmas.Bool.{and_parts, eqb-true, ltb-false}
 use Rattle.std.proofs.lemmas.Bool.Decides.{nat_tests}
@@ -23,7 +23,7 @@ use Rattle.ip_rules.specs.JudgedRecord.{IsKept, IsRead, where_holds}
 use Rattle.ip_rules.proofs.Lists.{none_found}
 use Rattle.dgram_rules.specs.RuleRows.{holds_dgram, dgram_dropped_by, u_short, u_sum_out}
 use Rattle.ip_rules.proofs.Rules.{arp_is_no_ip}
-use Rattle.reassembly.specs.Calls.{held, dropped, Call}
+use Rattle.reassembly.specs.Calls.{Call}
 use Rattle.norm_engine.specs.working.DatagramJudgment.{Judged}
 use Rattle.norm_engine.specs.working.RecordJudgment.{Judgment, Drop}
 use Rattle.norm_engine.specs.RuleRows.{side_of_record, holds_tcp, is_segment}

@@ -1,9 +1,8 @@
 -- A UDP or ICMP message that no rule drops: length, kind and checksum; a packet with it is plain.
-use Rattle.std.proofs.Common.{◌≡◌, ◌⊎◌, inl, inr, ℕ, ◌+◌, ◌≤◌, Bool, true, false, ◌&&◌, ◌||◌, ◌==◌, not, ◌++◌, length, None, refl, sym, ap, ◌∙◌, subst, arith, cond}
+use Rattle.std.proofs.Common.{◌≡◌, ◌⊎◌, inl, inr, ℕ, ◌≤◌, Bool, true, false, ◌&&◌, ◌||◌, ◌==◌, not, ◌++◌, length, None, refl, sym, ap, ◌∙◌, subst, arith, cond}
 use Rattle.std.specs.List.{AllByRecursion}
 use Rattle.std.proofs.lemmas.Bool.{and_right, eqb-true, ltb-false, not-false}
 use Rattle.wire_base.specs.Ipv4 as ip
-use Rattle.wire_base.specs.Tcp as tcp
 use Rattle.wire_base.specs.Icmp as kinds
 use Rattle.wire_base.specs.Udp as udp
 use Rattle.wire_base.specs.Checksums.{sum_is_right, pseudo_sum}

@@ -1,6 +1,6 @@
 -- Receivers agree on what was written of each era, also under an MTU, and read parts of one stream;
 -- and a monitor misses nothing of it.
-use Rattle.std.proofs.Common.{ℤ, ◌≡◌, ℕ, ◌+◌, ◌==◌, ◌&&◌, not, nat_lt, Bool, cond, All, List, ◌++◌, length, map, get_or, Option, Some, None, refl, sym, ap, ap₂, subst, ◌∙◌, arith, true, false, [], ◌∷◌}
+use Rattle.std.proofs.Common.{ℤ, ◌≡◌, ℕ, ◌==◌, ◌&&◌, not, nat_lt, Bool, cond, All, List, ◌++◌, length, map, get_or, Option, Some, None, refl, sym, ap, ap₂, subst, ◌∙◌, arith, true, false, [], ◌∷◌}
 use Rattle.std.specs.List.{AllByRecursion, flat_map}
 use Rattle.std.proofs.lemmas.Bool.{and_parts}
 use Rattle.std.proofs.lemmas.Grind.{flat_map-append}

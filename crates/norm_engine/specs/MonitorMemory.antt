@@ -1,6 +1,6 @@
 -- How much memory a monitor needs (this project's profile): what waits in it is what norm holds for
 -- a live era to compare octets that arrive again.
-use Rattle.std.specs.Prelude.{◌≡◌, ℕ, ◌+◌, ◌*◌, ◌≤◌, Bool, List, length, ℤ, pos, Option, Some, None, Contains, is_some}
+use Rattle.std.specs.Prelude.{◌≡◌, ℕ, ◌+◌, ◌*◌, ◌≤◌, Bool, List, length, pos, Some, Contains, is_some}
 use Rattle.std.specs.List.{count_by, range_with_len}
 use Rattle.wire_base.specs.declared.address.Link.{Link}
 use Rattle.norm_settings.specs.SettingValues.{PlainSettings}

@@ -20,9 +20,9 @@
 //! goes on where the first ended. The laws on traces assume records of octets and at most 254
 //! routers; `bridge_run` proves both of each run.
 //!
-//! What is written of a trace with an MTU is the trace with its long frames cut or dropped, and with
-//! its entries changed accordingly; `written::tell_cut` makes that change of an entry. Without an
-//! MTU it is the trace itself. Laws on what is written of a lawful trace: clean records keep their
+//! What is written of a trace with an MTU is the trace with its long frames cut or dropped, and
+//! with its entries changed accordingly; `written::tell_cut` changes an entry so. Without an MTU it
+//! is the trace itself. Laws on what is written of a lawful trace: clean records keep their
 //! payload, in one frame or in segments, unless a frame is too long and cannot be cut. Receivers
 //! agree, and read parts of one stream, which records brought. At each history a monitor has missed
 //! nothing. No frame is too long for the MTU or for a capture, and each frame written inwards is

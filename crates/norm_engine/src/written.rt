@@ -1,4 +1,4 @@
-//! The report on what is written for a record's frames with an MTU, and its entry.
+//! The report on what is written for a record with an MTU, and the change of its entry.
 ghost use Rattle.std.specs.Prelude.{◌≡◌, ◌≤◌, ◌<◌, ◌+◌, ◌||◌, All, length};
 ghost use Rattle.emit_mtu.specs.FrameParts.{AreOctets};
 ghost use Rattle.norm_engine.specs.WrittenTrace as spec;
