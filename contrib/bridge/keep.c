@@ -1,164 +1,239 @@
 /*
- * Files: norm's report, and IN, OUT and report of each run. The threads that pass frames copy whole
- * records or lines into a ring, and another thread writes them, so that no disk delays a frame.
+ * Files: IN, OUT and report of each run in a folder, and the report alone. A worker copies what is
+ * kept of a frame into rings, and one thread writes them to files, so that no disk delays a frame.
  */
 #include "norm-bridge.h"
-#include <errno.h>
 #include <fcntl.h>
-#include <poll.h>
-#include <stdio.h>
-#include <stdlib.h>
-#include <string.h>
+#include <sys/mman.h>
 #include <sys/stat.h>
-#include <time.h>
-#include <unistd.h>
 
-enum { KEPT_RING = 16 << 20, KEPT_SECONDS = 3600, NAP_MILLISECONDS = 20, MODE = 0640 };
+enum { RING = 16 << 20, LEAST_RING = 2 << 20, PAGE = 4096, AT_ONCE = 1 << 18, NAP_MILLISECONDS = 5 };
+enum { CAPTURE_HEAD = 24, RECORD_HEAD = 16, LINE = 400, HOUR = 3600, RETRY_SECONDS = 10 };
+/* Why new files begin: frames before them are lost, or they are those of a new engine. */
+enum { GAP = 1, RENEWED = 2 };
 
-static pthread_mutex_t files = PTHREAD_MUTEX_INITIALIZER;
-static char run_name[32];
+/* A capture of Ethernet in nanoseconds, of this machine's byte order. */
+static const uint32_t capture_head[CAPTURE_HEAD / 4] = {0xa1b23c4d, 2 | 4 << 16, 0, 0, 262144, 1};
+/* Octets of a ring; 0 if nothing is kept. */
+static size_t ring_size;
+static bool started;
+atomic_uint written;
 
-/* Milliseconds of UTC, as a word that sorts by time. */
+/* Returns where the next octets of a file go; NULL if its ring lacks the room, and the frame is lost. */
+static uint8_t *room(struct worker *w, int i, size_t most) {
+    struct file *file = &w->kept.files[i];
+    if (file->draft + most - atomic_load_explicit(&file->taken, memory_order_acquire) > ring_size) w->kept.full = true;
+    return w->kept.full || !file->ring ? NULL : file->ring + file->draft % ring_size;
+}
+
+/* Keeps a record: a frame, or if it is NULL the one of this index that the engine has written. */
+static void keep_frame(struct worker *w, int i, const struct norm_arrival *when, const uint8_t *frame, size_t size,
+                       uint32_t index) {
+    uint8_t *at = room(w, i, RECORD_HEAD + LONGEST);
+    struct norm_frame copy = {size, 0};
+    if (!at) return;
+    if (frame) memcpy(at + RECORD_HEAD, frame, size);
+    else norm_frame(&w->engine, index, at + RECORD_HEAD, LONGEST, &copy);
+    memcpy(at, (uint32_t[]){when->seconds, when->fraction, (uint32_t)copy.size, (uint32_t)copy.size}, RECORD_HEAD);
+    w->kept.files[i].draft += RECORD_HEAD + copy.size;
+}
+
+/* Keeps the line of the record of this index, or the last line of the report. */
+static void keep_line(struct worker *w, uint32_t index, bool last) {
+    for (int i = KEPT_REPORT; i < KEPT; i++) {
+        uint8_t *at = room(w, i, LINE);
+        size_t size = 0;
+        if (at && last) norm_last(&w->engine, at, LINE, &size);
+        else if (at) norm_line(&w->engine, index, at, LINE, &size);
+        w->kept.files[i].draft += size;
+    }
+}
+
+static void begin(struct kept *kept) {
+    kept->full = atomic_load_explicit(&kept->cause, memory_order_acquire) != 0;
+    for (int i = 0; i < KEPT; i++) kept->files[i].draft = GET(kept->files[i].put);
+}
+
+/* Has the thread that writes see what is kept of a frame, whole or not at all. */
+static void end(struct kept *kept) {
+    for (int i = 0; i < KEPT && !kept->full; i++)
+        atomic_store_explicit(&kept->files[i].put, kept->files[i].draft, memory_order_release);
+    ADD(kept->frames, !kept->full);
+    ADD(kept->lost, kept->full);
+    if (kept->full) atomic_fetch_or(&kept->cause, GAP);
+    if (kept->full && options.strict) end_bridge(1, "the disk is too slow for --strict");
+}
+
+void keep(struct worker *w, const struct norm_arrival *when, const uint8_t *frame, size_t size,
+          const struct norm_answer *answer) {
+    if (ring_size == 0) return;
+    begin(&w->kept);
+    keep_frame(w, KEPT_IN, when, frame, size, 0);
+    for (uint32_t i = 0; i < answer->frames; i++) keep_frame(w, KEPT_OUT, when, answer->as_read ? frame : NULL, size, i);
+    for (uint32_t i = 0; i < answer->records; i++) keep_line(w, i, false);
+    end(&w->kept);
+}
+
+void keep_end(struct worker *w, bool renewed) {
+    if (ring_size == 0) return;
+    begin(&w->kept);
+    keep_line(w, 0, true);
+    end(&w->kept);
+    if (renewed) atomic_fetch_or(&w->kept.cause, RENEWED);
+}
+
+/* Writes the time in milliseconds of UTC, as a word that sorts by time. */
 static void put_time(char *word, size_t size) {
     struct timespec now;
     struct tm parts;
     char second[20];
     clock_gettime(CLOCK_REALTIME, &now);
-    gmtime_r(&now.tv_sec, &parts);
-    strftime(second, sizeof second, "%Y%m%dT%H%M%S", &parts);
+    strftime(second, sizeof second, "%Y%m%dT%H%M%S", gmtime_r(&now.tv_sec, &parts));
     snprintf(word, size, "%s.%03uZ", second, (unsigned)(now.tv_nsec / 1000000) % 1000);
 }
 
-/* Ends the keeping of this file, and of those that are of no use without it. */
-static void give_up(struct norm *norm, struct kept *kept, const char *why) {
-    if (!atomic_exchange(&kept->on, false)) return;
-    for (int i = 0; i < REPORT_FILE && kept != &norm->kept[REPORT_FILE]; i++) atomic_store(&norm->kept[i].on, false);
-    say("%s: %s: %s", kept->path, why, options.strict ? "ending" : "it is not kept any more");
-    if (!options.strict) return;
-    atomic_store(&strict_failed, true);
-    raise_event(ended_event);
-}
-
-/* Moves an older report aside, by the time: a report is never lost. */
-static bool move_aside(const char *path) {
-    struct stat about;
-    char word[32], other[PATH_ROOM + 40];
-    if (stat(path, &about) < 0 || !S_ISREG(about.st_mode) || about.st_size == 0) return true;
-    put_time(word, sizeof word);
-    snprintf(other, sizeof other, "%s-%s", path, word);
-    return rename(path, other) == 0;
-}
-
-/* Opens the next file. Each part of a capture has its head. */
-static bool open_part(const struct norm *norm, struct kept *kept) {
+/* Names the next file of a kind. A report alone is first moved aside, by the time: it is never lost. */
+static bool name_file(struct worker *w, int i, bool gap) {
     static const char *const kinds[] = {"in", "out", "report"};
-    char job[8] = "";
-    bool alone = kept == &norm->kept[REPORT_FILE], capture = kept <= &norm->kept[KEPT_OUT];
-    if (options.jobs > 1) snprintf(job, sizeof job, ".%d", norm->number);
-    if (kept->fd > 2) close(kept->fd);
-    if (alone) snprintf(kept->path, PATH_ROOM, "%s%s", options.report, job);
-    else
-        snprintf(kept->path, PATH_ROOM, "%s/%s-%s%s-%06u.%s", options.keep, kinds[kept - norm->kept], run_name, job,
-                 ++kept->part, capture ? "pcap" : "txt");
-    kept->fd = -1;
-    if (alone && !move_aside(kept->path)) return false;
-    kept->fd = open(kept->path, O_WRONLY | O_CREAT | O_CLOEXEC | O_NOCTTY | (alone ? O_TRUNC : O_EXCL), MODE);
-    if (kept->fd < 0) return false;
+    struct stat about;
+    char *path = w->kept.files[i].path, job[8] = "", time[32], aside[sizeof w->kept.files[i].path + 40];
+    const char *after = gap ? "-gap" : "";
+    if (options.jobs > 1) snprintf(job, sizeof job, ".%d", w->number);
+    if (i != REPORT_FILE)
+        return snprintf(path, sizeof w->kept.files[i].path, "%s/%s-%s%s-%06u%s.%s", options.keep, kinds[i], w->kept.run,
+                        job, w->kept.part, after, i < KEPT_REPORT ? "pcap" : "txt") > 0;
+    snprintf(path, sizeof w->kept.files[i].path, "%s%s", options.report, job);
+    if (lstat(path, &about) < 0 || !S_ISREG(about.st_mode) || about.st_size == 0) return true;
+    put_time(time, sizeof time);
+    snprintf(aside, sizeof aside, "%s-%s%s", path, time, after);
+    return rename(path, aside) == 0;
+}
+
+/* Opens the next file of a kind. Returns why it cannot be written, or NULL. */
+static const char *open_file(struct worker *w, int i, bool gap) {
+    struct file *file = &w->kept.files[i];
+    struct stat about;
+    const void *head = i < KEPT_REPORT ? (const void *)capture_head : w->first;
+    size_t size = i < KEPT_REPORT ? CAPTURE_HEAD : w->kept.part == 1 ? w->first_size : 0;
+    int flags = O_WRONLY | O_CREAT | O_CLOEXEC | O_NOFOLLOW | O_NONBLOCK | (i == REPORT_FILE ? O_TRUNC : O_EXCL);
+    if (!name_file(w, i, gap) || (file->fd = open(file->path, flags, 0600)) < 0) return strerror(errno);
+    if (fstat(file->fd, &about) < 0 || !S_ISREG(about.st_mode)) return "it is no regular file";
+    file->size = file->whole = 0;
+    if (size > 0 && write(file->fd, head, size) != (ssize_t)size) return strerror(ENOSPC);
+    file->size = file->whole = size;
+    return NULL;
+}
+
+/* Ends the files with whole records of the same frames, and says why. They begin again some seconds later. */
+static void fail_files(struct kept *kept, int failed, const char *why) {
+    const char *path = kept->files[failed].path;
+    if (!started) fail(2, "%s: %s (it is opened as the user of --user)", path, why);
+    for (int i = 0; i < KEPT; i++) {
+        const struct file *file = &kept->files[i];
+        if (file->fd < 0) continue;
+        if (file->whole == 0 && i != REPORT_FILE) unlink(file->path);
+        else if (ftruncate(file->fd, (off_t)file->whole) < 0) say("%s: %s", file->path, strerror(errno));
+    }
+    kept->open = false;
+    kept->retry = time(NULL) + RETRY_SECONDS;
+    atomic_fetch_or(&kept->cause, GAP);
+    if (options.strict) end_bridge(1, "%s: %s", path, why);
+    else say("%s: %s: trying again in %d seconds", path, why, RETRY_SECONDS);
+}
+
+/* Begins new files, for this cause if it is not 0. */
+static void begin_files(struct worker *w, uint32_t cause) {
+    struct kept *kept = &w->kept;
+    const char *why = NULL;
+    int i = KEPT;
+    if (cause & RENEWED) put_time(kept->run, sizeof kept->run);
+    kept->part = cause & RENEWED ? 1 : kept->part + 1;
     kept->since = time(NULL);
-    kept->size = capture ? CAPTURE_HEAD : 0;
-    return !capture || write(kept->fd, capture_head, CAPTURE_HEAD) == CAPTURE_HEAD;
+    while (i-- > 0 && !why) {
+        if (kept->files[i].fd >= 0) close(kept->files[i].fd);
+        kept->files[i].fd = -1;
+        if (kept->files[i].ring) why = open_file(w, i, cause & GAP);
+    }
+    kept->open = !why;
+    if (why) fail_files(kept, i + 1, why);
+    else atomic_fetch_and(&kept->cause, ~cause);
+    if (!why && cause & GAP)
+        say("%s: frames before it are not kept: %ju so far", kept->files[options.keep ? KEPT_IN : REPORT_FILE].path,
+            (uintmax_t)(GET(kept->lost) + GET(kept->unwritten)));
 }
 
-static bool is_due(const struct norm *norm, const struct kept *kept) {
-    if (options.rotate > 0 && kept->size >= options.rotate) return true;
-    return kept != &norm->kept[REPORT_FILE] && time(NULL) - kept->since >= KEPT_SECONDS;
+/* Writes what a ring has, or drops it while there are no files. Returns how much it was. */
+static uint64_t write_ring(struct kept *kept, int i) {
+    struct file *file = &kept->files[i];
+    uint64_t end = atomic_load_explicit(&file->put, memory_order_acquire), begin = GET(file->taken);
+    for (uint64_t at = begin; at < end;) {
+        size_t some = end - at < AT_ONCE ? end - at : AT_ONCE;
+        ssize_t got = kept->open ? write(file->fd, file->ring + at % ring_size, some) : (ssize_t)some;
+        if (got < 0) fail_files(kept, i, strerror(errno));
+        at += got < 0 ? 0 : (uint64_t)got;
+        file->size += got < 0 ? 0 : (uint64_t)got;
+        atomic_store_explicit(&file->taken, at, memory_order_release);
+    }
+    return end - begin;
 }
 
-/* Writes what a ring holds. What is written of a record or line on a full disk is cut off again. */
-static void write_kept(struct norm *norm, struct kept *kept) {
-    uint64_t put = atomic_load_explicit(&kept->put, memory_order_acquire), taken = GET(kept->taken), left = put - taken;
-    if (!kept->on || left == 0) return;
-    if (is_due(norm, kept) && !open_part(norm, kept)) {
-        give_up(norm, kept, strerror(errno));
-        return;
+/* Writes what a worker has kept, and begins new files where that is due. Returns how much it was. */
+static uint64_t write_round(struct worker *w) {
+    struct kept *kept = &w->kept;
+    uint32_t cause = atomic_load_explicit(&kept->cause, memory_order_acquire);
+    uint64_t frames = GET(kept->frames), all = 0, longest = 0;
+    /* The report first: the captures then have at least its records. */
+    for (int i = KEPT; i-- > 0;) all += write_ring(kept, i);
+    for (int i = 0; i < KEPT; i++) {
+        kept->files[i].whole = kept->files[i].size;
+        if (kept->files[i].size > longest) longest = kept->files[i].size;
     }
-    for (uint64_t done = 0; done < left;) {
-        uint64_t from = (taken + done) % KEPT_RING, some = left - done;
-        if (some > KEPT_RING - from) some = KEPT_RING - from;
-        ssize_t got = write(kept->fd, kept->ring + from, some);
-        if (got < 0 && errno == EINTR) continue;
-        if (got <= 0) {
-            int why = errno;
-            if (ftruncate(kept->fd, (off_t)kept->size) < 0) why = errno == EINVAL ? why : errno;
-            give_up(norm, kept, strerror(why));
-            return;
-        }
-        done += (uint64_t)got;
-    }
-    kept->size += left;
-    atomic_store_explicit(&kept->taken, put, memory_order_release);
+    if (!kept->open) ADD(kept->unwritten, frames - kept->seen);
+    kept->seen = frames;
+    if (options.rotate && longest >= options.rotate) kept->since = 0;
+    bool due = (options.keep || kept->since == 0) && longest > CAPTURE_HEAD && time(NULL) >= kept->since + HOUR;
+    if ((due || cause) && time(NULL) >= kept->retry) begin_files(w, cause);
+    return all;
 }
 
-static void *write_files(void *unused) {
-    for (;;) {
-        pthread_mutex_lock(&files);
-        for (uint64_t j = 0; j < options.jobs; j++)
-            for (int i = 0; i < KEPT; i++) write_kept(&norms[j], &norms[j].kept[i]);
-        pthread_mutex_unlock(&files);
-        poll(NULL, 0, NAP_MILLISECONDS);
+/* The thread that writes, until the workers have ended and all is written. */
+void *write_kept(void *unused) {
+    for (bool last = false; !last;) {
+        uint64_t all = 0;
+        last = atomic_load(&ended) == options.jobs;
+        for (uint64_t j = 0; j < options.jobs; j++) all += write_round(&workers[j]);
+        if (all < ring_size / 8 && !last) poll(NULL, 0, NAP_MILLISECONDS);
     }
+    atomic_store(&written, 1);
+    raise_event();
     return unused;
 }
 
-/* Copies whole records or lines for the thread that writes. */
-void keep_octets(struct norm *norm, int which, const void *octets, size_t length) {
-    struct kept *kept = &norm->kept[which];
-    if (!atomic_load_explicit(&kept->on, memory_order_relaxed)) return;
-    uint64_t put = GET(kept->put), at = put % KEPT_RING;
-    size_t first = length < KEPT_RING - at ? length : KEPT_RING - at;
-    if (put + length - atomic_load_explicit(&kept->taken, memory_order_acquire) > KEPT_RING) {
-        give_up(norm, kept, "the disk is too slow");
-        return;
-    }
-    memcpy(kept->ring + at, octets, first);
-    memcpy(kept->ring, (const char *)octets + first, length - first);
-    atomic_store_explicit(&kept->put, put + length, memory_order_release);
+/* Maps a ring twice in a row, so that nothing in it is in two parts. */
+static unsigned char *make_ring(void) {
+    int memory = memfd_create("kept", MFD_CLOEXEC), how = MAP_SHARED | MAP_FIXED | MAP_POPULATE;
+    unsigned char *at = mmap(NULL, 2 * ring_size, PROT_NONE, MAP_PRIVATE | MAP_ANONYMOUS, -1, 0);
+    if (memory < 0 || at == MAP_FAILED || ftruncate(memory, (off_t)ring_size) < 0
+        || mmap(at, ring_size, PROT_READ | PROT_WRITE, how, memory, 0) == MAP_FAILED
+        || mmap(at + ring_size, ring_size, PROT_READ | PROT_WRITE, how, memory, 0) == MAP_FAILED)
+        fail(1, "memory for files: %s", strerror(errno));
+    close(memory);
+    return at;
 }
 
-/* Opens the files of a run. A file that cannot be opened at the start of the bridge ends it. */
-void keep_begin(struct norm *norm) {
-    static bool started;
-    pthread_t thread;
-    if (!options.report && !options.keep) return;
-    pthread_mutex_lock(&files);
-    if (norm->number == 0) put_time(run_name, sizeof run_name);
-    for (int i = 0; i < KEPT; i++) {
-        struct kept *kept = &norm->kept[i];
-        kept->fd = -1;
-        kept->part = 0;
-        if (i == REPORT_FILE ? !options.report : !options.keep) continue;
-        if (!kept->ring && !(kept->ring = malloc(KEPT_RING))) fail(1, "memory could not be allocated");
-        kept->put = kept->taken = 0;
-        atomic_store(&kept->on, true);
-        if (open_part(norm, kept)) continue;
-        if (!started) fail(2, "%s: %s (it is opened as the user of norm: --user)", kept->path, strerror(errno));
-        give_up(norm, kept, strerror(errno));
+/* Makes the rings, and opens the first files. */
+void open_kept(void) {
+    char run[sizeof workers[0].kept.run];
+    if (!options.keep && !options.report) return;
+    put_time(run, sizeof run);
+    ring_size = RING / options.jobs > LEAST_RING ? RING / options.jobs / PAGE * PAGE : LEAST_RING;
+    for (uint64_t j = 0; j < options.jobs; j++) {
+        for (int i = 0; i < KEPT; i++) {
+            workers[j].kept.files[i].fd = -1;
+            if (i == REPORT_FILE ? options.report : options.keep) workers[j].kept.files[i].ring = make_ring();
+        }
+        memcpy(workers[j].kept.run, run, sizeof run);
+        begin_files(&workers[j], 0);
     }
-    pthread_mutex_unlock(&files);
-    if (!started && norm->number == (int)options.jobs - 1) {
-        started = true;
-        if (pthread_create(&thread, NULL, write_files, NULL) != 0) fail(1, "a thread could not be started");
-    }
-}
-
-/* Writes and closes what is left of a run. */
-void keep_end(struct norm *norm) {
-    pthread_mutex_lock(&files);
-    for (int i = 0; i < KEPT; i++) {
-        write_kept(norm, &norm->kept[i]);
-        if (norm->kept[i].fd > 2) close(norm->kept[i].fd);
-        atomic_store(&norm->kept[i].on, false);
-        norm->kept[i].fd = -1;
-    }
-    pthread_mutex_unlock(&files);
+    started = true;
 }

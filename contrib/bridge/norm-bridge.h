@@ -1,137 +1,123 @@
-/* What the parts of norm-bridge share: the two interfaces, the runs of norm, and the options. */
+/* What the parts of norm-bridge share: the options, the two interfaces, and the workers. */
 #ifndef NORM_BRIDGE_H
 #define NORM_BRIDGE_H
 #define _GNU_SOURCE
-#include <pcap/pcap.h>
-#include <pthread.h>
+#include "norm.h"
+#include <errno.h>
+#include <linux/if_packet.h>
+#include <poll.h>
 #include <stdatomic.h>
-#include <stdbool.h>
-#include <stddef.h>
-#include <stdint.h>
-#include <sys/types.h>
+#include <stdio.h>
+#include <stdlib.h>
+#include <string.h>
+#include <sys/socket.h>
+#include <time.h>
+#include <unistd.h>
 
-enum { OUTSIDE, INSIDE, SIDES };
-enum { PREFIXES = 16, JOBS = 64, NORM_WORDS = 64 };
-/* Octets of a frame, at most: those of the longest IPv4 packet and its Ethernet header. */
-enum { LONGEST = 65549, RECORD_HEAD = 16, CAPTURE_HEAD = 24, BATCH = 1 << 19 };
-/* Sixteen buckets for each power of two of microseconds. */
+enum { SIDES = 2, FATES = NORM_TRUNCATED + 1, VERDICTS = NORM_DROP + 1, JOBS = 64 };
+/* Frames that are read or sent at once, and octets of a frame at most. */
+enum { BATCH = 64, LONGEST = 65549 };
+/* Of waits, sixteen for each power of two of microseconds. */
 enum { BUCKETS = 512 };
-enum { PASS, FIX, HOLD, DROP, VERDICTS };
+enum { KEPT_IN, KEPT_OUT, KEPT_REPORT, REPORT_FILE, KEPT };
 
+/* A counter has one thread that writes it; the main thread reads it. */
 typedef _Atomic uint64_t count;
-#define ADD(counter, n) atomic_fetch_add_explicit(&(counter), (n), memory_order_relaxed)
 #define GET(counter) atomic_load_explicit(&(counter), memory_order_relaxed)
+#define ADD(counter, n) atomic_store_explicit(&(counter), GET(counter) + (n), memory_order_relaxed)
 
-struct prefix {
-    uint32_t net, mask;
+/* A worker's socket on an interface: its receive ring, and the frames that leave by it. */
+struct port {
+    int socket;
+    unsigned char *ring;
+    size_t slot;
+    unsigned slots, next, filled;
+    struct mmsghdr heads[BATCH];
+    struct iovec parts[BATCH];
+    uint64_t times[BATCH];
+    /* The send queue was full for as long as it is waited for, and nothing was sent since. */
+    bool stuck;
+    /* Frames received, what became of them, and those whose checksum was left to a card. */
+    count received, fates[FATES], unfilled, sent, failed, kernel;
 };
 
-struct side {
-    const char *name;
-    pcap_t *ring;
-    unsigned index, mtu;
-    /* Each received frame is counted once more: given to norm, or one of the second line. */
-    count received;
-    count forged, arp, unjudged, too_long, down, given;
-    count sent, failed, kernel;
-    /* Lines of norm's report for this side, and those that name a wrong checksum and drop. */
-    count lines, wrong;
-    bool warned;
-};
-
-/* Files of a run: IN, OUT and report in a folder, and the report alone. */
-enum { KEPT_IN, KEPT_OUT, KEPT_REPORT, REPORT_FILE, KEPT, PATH_ROOM = 4096 };
-
-/* A file that is kept in parts, and the ring of what is not written to it yet. */
-struct kept {
-    atomic_bool on;
+/* A file, the ring of what it lacks, and how long it was when all had whole records of the same frames. */
+struct file {
     unsigned char *ring;
     count put, taken;
+    uint64_t draft, size, whole;
     int fd;
+    char path[4096];
+};
+
+/* What a worker keeps: nothing while there is a cause for new files, which the thread that writes has yet to begin. */
+struct kept {
+    struct file files[KEPT];
+    bool full, open;
+    atomic_uint cause;
+    count frames, lost, unwritten;
+    uint64_t seen;
     unsigned part;
-    uint64_t size;
-    int64_t since;
-    char path[PATH_ROOM];
+    int64_t since, retry;
+    char run[32];
 };
 
-/* One run of norm: its process, its pipes, and the threads that read them. */
-struct norm {
+/* A thread with an engine, for a part of the hosts inside. */
+struct worker {
     int number;
-    pid_t pid;
-    int in, out, report, errors;
-    int sockets[SIDES];
-    pthread_t sender, reader;
-    /* How long the report's reader may nap: the pipe holds what norm writes meanwhile. */
-    int nap;
-    /* OUT has ended; its head was read; the bridge killed norm, maybe since another run ended. */
-    atomic_bool ended;
-    bool answered, killed, aside;
-    unsigned char *batch, *frames;
-    size_t filled;
-    count written, verdicts[VERDICTS], waits[BUCKETS];
-    /* The line of the report that is not complete yet, and the last complete one. */
-    char line[128], last[128];
-    size_t line_filled;
-    struct kept kept[KEPT];
+    struct norm_handle engine;
+    /* The first line of its report. */
+    uint8_t first[64];
+    size_t first_size;
+    bool broken;
+    struct port ports[SIDES];
+    /* Copies of the frames that leave changed, until they are sent. */
+    unsigned char *copies;
+    size_t copied;
+    count wrote, verdicts[VERDICTS], waits[BUCKETS];
+    struct kept kept;
 };
 
-struct options {
-    const char *norm, *user, *report, *keep;
-    bool restart, strict, without_norm;
+extern struct options {
+    const char *user, *report, *keep;
+    bool strict, without_norm;
     uint64_t rotate, every, jobs;
-    struct prefix prefixes[PREFIXES];
-    char **prefix_words;
-    int prefix_count;
-    char *norm_words[NORM_WORDS];
-    int norm_count;
-};
+} options;
+extern struct side {
+    const char *name;
+    unsigned index, mtu;
+    bool up;
+} sides[SIDES];
+extern struct worker workers[JOBS];
 
-extern struct options options;
-extern struct side sides[SIDES];
-extern struct norm norms[JOBS];
-/* Whether frames pass: false while no norm runs, and from the end of one on. */
-extern atomic_bool passing;
-/* Written to when a thread ends, or a file could not be written with --strict. */
-extern int ended_event;
-extern atomic_bool fed, strict_failed;
-
-/* norm-bridge.c */
-void raise_event(int event);
+/* norm-bridge.c: `fail` ends the program; `end_bridge` has the main thread end it, and prints the first reason alone. */
+#define fail(status, ...) (say(__VA_ARGS__), exit(status))
+#define end_bridge(status, ...) (is_first_end(status) ? say(__VA_ARGS__) : (void)0)
+enum { STARTING, PASSING, STOPPING };
+extern atomic_uint state, ready, ended, written;
+extern int stop_event;
 void say(const char *form, ...) __attribute__((format(printf, 1, 2)));
-void fail(int status, const char *form, ...) __attribute__((format(printf, 2, 3), noreturn));
+bool is_first_end(int status);
+void raise_event(void);
+void wait_second(void);
+uint64_t now_of(clockid_t clock);
 
-/* words.c */
+/* words.c: the words that engines are opened with have one space between each two. */
+extern char *engine_words;
+extern size_t engine_length;
 void read_words(int count, char **words);
-bool trusted(uint32_t address);
+void make_engine_words(void);
 
-/* links.c */
+/* links.c: `set_filters` has the sockets receive nothing, or those of each worker the frames of its hosts. */
 void open_sides(void);
 void warn_of_sides(void);
-int open_socket(const struct side *to);
+void set_filters(bool receive);
 bool link_exists(const struct side *side);
 
-/* frames.c */
-extern int feed_event;
-extern const uint32_t capture_head[CAPTURE_HEAD / 4];
-uint64_t clock_now(void);
-void clock_begin(void);
-void *feed(void *unused);
-void drain(void);
-void *send_frames(void *norm);
-
-/* report.c */
-void *read_report(void *norm);
-void print_counts(bool in_place, bool since_start);
-
-/* keep.c */
-void keep_begin(struct norm *norm);
-void keep_octets(struct norm *norm, int which, const void *octets, size_t length);
-void keep_end(struct norm *norm);
-
-/* run.c */
-bool start_norm(struct norm *norm);
-void kill_norm(struct norm *norm);
-int end_norm(struct norm *norm, bool wanted, bool *again);
-void resolve_norm(void);
-void drop_privileges(void);
+/* worker.c, keep.c: `keep` is of a frame that was judged, `keep_end` of the end of an engine. */
+void *work(void *worker);
+void open_kept(void);
+void *write_kept(void *unused);
+void keep(struct worker *w, const struct norm_arrival *when, const uint8_t *frame, size_t size, const struct norm_answer *answer);
+void keep_end(struct worker *w, bool renewed);
 #endif
