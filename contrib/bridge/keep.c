@@ -1,126 +1,134 @@
 /*
  * Files: IN, OUT and report of each run in a folder, and the report alone. A worker copies what is
- * kept of a frame into rings, and one thread writes them to files, so that no disk delays a frame.
+ * kept into one of two blocks, and one thread writes the other, so that no disk delays a frame.
  */
 #include "norm-bridge.h"
 #include <fcntl.h>
-#include <sys/mman.h>
 #include <sys/stat.h>
 
-enum { RING = 16 << 20, LEAST_RING = 2 << 20, PAGE = 4096, AT_ONCE = 1 << 18, NAP_MILLISECONDS = 5 };
-enum { CAPTURE_HEAD = 24, RECORD_HEAD = 16, LINE = 400, HOUR = 3600, RETRY_SECONDS = 10 };
-/* Why new files begin: frames before them are lost, or they are those of a new engine. */
+enum { ROOM = 16 << 20, LEAST_ROOM = 1 << 20, NAP_MILLISECONDS = 5, HOUR = 3600, RETRY_SECONDS = 10 };
+enum { CAPTURE_HEAD = 24, RECORD_HEAD = 16, LAST_LINE = 64 };
+/* Why new files begin with a block: frames before it are lost, or it is the first one of a new engine. */
 enum { GAP = 1, RENEWED = 2 };
 
 /* A capture of Ethernet in nanoseconds, of this machine's byte order. */
 static const uint32_t capture_head[CAPTURE_HEAD / 4] = {0xa1b23c4d, 2 | 4 << 16, 0, 0, 262144, 1};
-/* Octets of a ring; 0 if nothing is kept. */
-static size_t ring_size;
+/* Octets for each file in a block, and room for a last line more; 0 if nothing is kept. */
+static size_t room;
 static bool started;
 atomic_uint written;
 
-/* Returns where the next octets of a file go; NULL if its ring lacks the room, and the frame is lost. */
-static uint8_t *room(struct worker *w, int i, size_t most) {
-    struct file *file = &w->kept.files[i];
-    if (file->draft + most - atomic_load_explicit(&file->taken, memory_order_acquire) > ring_size) w->kept.full = true;
-    return w->kept.full || !file->ring ? NULL : file->ring + file->draft % ring_size;
-}
-
-/* Keeps a record: a frame, or if it is NULL the one of this index that the engine has written. */
-static void keep_frame(struct worker *w, int i, const struct norm_arrival *when, const uint8_t *frame, size_t size,
-                       uint32_t index) {
-    uint8_t *at = room(w, i, RECORD_HEAD + LONGEST);
+/* Adds a record: a frame, or if it is NULL the one of this index that the engine has written. */
+static bool add_frame(struct worker *w, struct block *block, int i, const struct norm_arrival *when, const uint8_t *frame,
+                      size_t size, uint32_t index) {
+    uint8_t *at = block->octets[i] + block->filled[i];
+    size_t left = room - block->filled[i];
     struct norm_frame copy = {size, 0};
-    if (!at) return;
+    if (left < RECORD_HEAD + (frame ? size : 0)) return false;
     if (frame) memcpy(at + RECORD_HEAD, frame, size);
-    else norm_frame(&w->engine, index, at + RECORD_HEAD, LONGEST, &copy);
+    else if (norm_frame(&w->engine, index, at + RECORD_HEAD, left - RECORD_HEAD, &copy) != NORM_DONE) return false;
     memcpy(at, (uint32_t[]){when->seconds, when->fraction, (uint32_t)copy.size, (uint32_t)copy.size}, RECORD_HEAD);
-    w->kept.files[i].draft += RECORD_HEAD + copy.size;
+    block->filled[i] += RECORD_HEAD + copy.size;
+    return true;
 }
 
-/* Keeps the line of the record of this index, or the last line of the report. */
-static void keep_line(struct worker *w, uint32_t index, bool last) {
-    for (int i = KEPT_REPORT; i < KEPT; i++) {
-        uint8_t *at = room(w, i, LINE);
-        size_t size = 0;
-        if (at && last) norm_last(&w->engine, at, LINE, &size);
-        else if (at) norm_line(&w->engine, index, at, LINE, &size);
-        w->kept.files[i].draft += size;
+/* Adds all that is kept of a frame, or nothing. */
+static bool add(struct worker *w, const struct norm_arrival *when, const uint8_t *frame, size_t size,
+                const struct norm_answer *answer) {
+    struct block *block = &w->kept.blocks[w->kept.current];
+    size_t before[KEPT];
+    memcpy(before, block->filled, sizeof before);
+    bool whole = !options.keep || add_frame(w, block, KEPT_IN, when, frame, size, 0);
+    for (uint32_t i = 0; i < answer->frames && options.keep && whole; i++)
+        whole = add_frame(w, block, KEPT_OUT, when, answer->as_read ? frame : NULL, size, i);
+    for (uint32_t i = 0; i < answer->records && whole; i++) {
+        size_t *filled = &block->filled[KEPT_REPORT], line = 0;
+        whole = norm_line(&w->engine, i, block->octets[KEPT_REPORT] + *filled, room - *filled, &line) == NORM_DONE;
+        *filled += line;
     }
+    if (!whole) memcpy(block->filled, before, sizeof before);
+    block->frames += whole;
+    return whole;
 }
 
-static void begin(struct kept *kept) {
-    kept->full = atomic_load_explicit(&kept->cause, memory_order_acquire) != 0;
-    for (int i = 0; i < KEPT; i++) kept->files[i].draft = GET(kept->files[i].put);
-}
-
-/* Has the thread that writes see what is kept of a frame, whole or not at all. */
-static void end(struct kept *kept) {
-    for (int i = 0; i < KEPT && !kept->full; i++)
-        atomic_store_explicit(&kept->files[i].put, kept->files[i].draft, memory_order_release);
-    ADD(kept->frames, !kept->full);
-    ADD(kept->lost, kept->full);
-    if (kept->full) atomic_fetch_or(&kept->cause, GAP);
-    if (kept->full && options.strict) end_bridge(1, "the disk is too slow for --strict");
+/* Hands the worker's block over, if the other one is written. Returns whether that one is the worker's now. */
+static bool hand_over(struct worker *w) {
+    struct kept *kept = &w->kept;
+    struct block *next = &kept->blocks[!kept->current];
+    if (atomic_load_explicit(&next->full, memory_order_acquire)) return false;
+    next->frames = 0;
+    next->cause = kept->cause;
+    memset(next->filled, 0, sizeof next->filled);
+    atomic_store_explicit(&kept->blocks[kept->current].full, true, memory_order_release);
+    kept->current = !kept->current;
+    kept->cause = 0;
+    return true;
 }
 
 void keep(struct worker *w, const struct norm_arrival *when, const uint8_t *frame, size_t size,
           const struct norm_answer *answer) {
-    if (ring_size == 0) return;
-    begin(&w->kept);
-    keep_frame(w, KEPT_IN, when, frame, size, 0);
-    for (uint32_t i = 0; i < answer->frames; i++) keep_frame(w, KEPT_OUT, when, answer->as_read ? frame : NULL, size, i);
-    for (uint32_t i = 0; i < answer->records; i++) keep_line(w, i, false);
-    end(&w->kept);
+    for (int tries = 0; tries < 2; tries++) {
+        if (room == 0 || (w->kept.cause == 0 && add(w, when, frame, size, answer))) return;
+        if (!hand_over(w)) break;
+    }
+    ADD(w->kept.lost, 1);
+    w->kept.cause |= GAP;
+    if (options.strict) end_bridge(1, "the disk is too slow for --strict");
 }
+
+bool keep_pass(struct worker *w) { return w->kept.blocks[w->kept.current].frames == 0 || hand_over(w); }
 
 void keep_end(struct worker *w, bool renewed) {
-    if (ring_size == 0) return;
-    begin(&w->kept);
-    keep_line(w, 0, true);
-    end(&w->kept);
-    if (renewed) atomic_fetch_or(&w->kept.cause, RENEWED);
+    if (room == 0 || (w->kept.cause && !hand_over(w))) return;
+    struct block *block = &w->kept.blocks[w->kept.current];
+    size_t size = 0;
+    norm_last(&w->engine, block->octets[KEPT_REPORT] + block->filled[KEPT_REPORT], LAST_LINE, &size);
+    block->filled[KEPT_REPORT] += size;
+    if (renewed) w->kept.cause |= RENEWED;
 }
 
-/* Writes the time in milliseconds of UTC, as a word that sorts by time. */
-static void put_time(char *word, size_t size) {
+/* Returns the time in milliseconds of UTC, as a word that sorts by time. */
+static const char *time_word(void) {
+    static char word[32];
     struct timespec now;
     struct tm parts;
-    char second[20];
     clock_gettime(CLOCK_REALTIME, &now);
-    strftime(second, sizeof second, "%Y%m%dT%H%M%S", gmtime_r(&now.tv_sec, &parts));
-    snprintf(word, size, "%s.%03uZ", second, (unsigned)(now.tv_nsec / 1000000) % 1000);
+    size_t at = strftime(word, sizeof word, "%Y%m%dT%H%M%S", gmtime_r(&now.tv_sec, &parts));
+    snprintf(word + at, sizeof word - at, ".%03uZ", (unsigned)(now.tv_nsec / 1000000) % 1000);
+    return word;
 }
 
-/* Names the next file of a kind. A report alone is first moved aside, by the time: it is never lost. */
-static bool name_file(struct worker *w, int i, bool gap) {
+static bool write_whole(int fd, const void *octets, size_t size) {
+    for (size_t done = 0; done < size;) {
+        ssize_t some = write(fd, (const char *)octets + done, size - done);
+        if (some < 0) return false;
+        done += (size_t)some;
+    }
+    return true;
+}
+
+/* Opens the next file of a kind. Returns why it cannot be written, or NULL. An older report is moved aside. */
+static const char *open_file(struct worker *w, int i, const char *mark) {
     static const char *const kinds[] = {"in", "out", "report"};
-    struct stat about;
-    char *path = w->kept.files[i].path, job[8] = "", time[32], aside[sizeof w->kept.files[i].path + 40];
-    const char *after = gap ? "-gap" : "";
-    if (options.jobs > 1) snprintf(job, sizeof job, ".%d", w->number);
-    if (i != REPORT_FILE)
-        return snprintf(path, sizeof w->kept.files[i].path, "%s/%s-%s%s-%06u%s.%s", options.keep, kinds[i], w->kept.run,
-                        job, w->kept.part, after, i < KEPT_REPORT ? "pcap" : "txt") > 0;
-    snprintf(path, sizeof w->kept.files[i].path, "%s%s", options.report, job);
-    if (lstat(path, &about) < 0 || !S_ISREG(about.st_mode) || about.st_size == 0) return true;
-    put_time(time, sizeof time);
-    snprintf(aside, sizeof aside, "%s-%s%s", path, time, after);
-    return rename(path, aside) == 0;
-}
-
-/* Opens the next file of a kind. Returns why it cannot be written, or NULL. */
-static const char *open_file(struct worker *w, int i, bool gap) {
     struct file *file = &w->kept.files[i];
+    bool capture = i < KEPT_REPORT, alone = i == REPORT_FILE;
+    char job[8] = "", aside[sizeof file->path + 40];
     struct stat about;
-    const void *head = i < KEPT_REPORT ? (const void *)capture_head : w->first;
-    size_t size = i < KEPT_REPORT ? CAPTURE_HEAD : w->kept.part == 1 ? w->first_size : 0;
-    int flags = O_WRONLY | O_CREAT | O_CLOEXEC | O_NOFOLLOW | O_NONBLOCK | (i == REPORT_FILE ? O_TRUNC : O_EXCL);
-    if (!name_file(w, i, gap) || (file->fd = open(file->path, flags, 0600)) < 0) return strerror(errno);
+    if (options.jobs > 1) snprintf(job, sizeof job, ".%d", w->number);
+    if (alone) snprintf(file->path, sizeof file->path, "%s%s", options.report, job);
+    else
+        snprintf(file->path, sizeof file->path, "%s/%s-%s%s-%06u%s.%s", options.keep, kinds[i], w->kept.run, job,
+                 w->kept.part, mark, capture ? "pcap" : "txt");
+    snprintf(aside, sizeof aside, "%s-%s%s", file->path, time_word(), mark);
+    bool older = alone && lstat(file->path, &about) == 0 && S_ISREG(about.st_mode) && about.st_size > 0;
+    if (older && rename(file->path, aside) < 0) return strerror(errno);
+    file->fd = open(file->path, O_WRONLY | O_CREAT | O_CLOEXEC | O_NOFOLLOW | O_NONBLOCK | (alone ? O_TRUNC : O_EXCL), 0600);
+    if (file->fd < 0) return strerror(errno);
     if (fstat(file->fd, &about) < 0 || !S_ISREG(about.st_mode)) return "it is no regular file";
-    file->size = file->whole = 0;
-    if (size > 0 && write(file->fd, head, size) != (ssize_t)size) return strerror(ENOSPC);
-    file->size = file->whole = size;
+    size_t head = capture ? CAPTURE_HEAD : w->kept.part == 1 ? w->first_size : 0;
+    file->size = 0;
+    if (!write_whole(file->fd, capture ? (const void *)capture_head : w->first, head)) return strerror(errno);
+    file->size = head;
     return NULL;
 }
 
@@ -128,112 +136,88 @@ static const char *open_file(struct worker *w, int i, bool gap) {
 static void fail_files(struct kept *kept, int failed, const char *why) {
     const char *path = kept->files[failed].path;
     if (!started) fail(2, "%s: %s (it is opened as the user of --user)", path, why);
-    for (int i = 0; i < KEPT; i++) {
-        const struct file *file = &kept->files[i];
+    for (struct file *file = kept->files; file < kept->files + KEPT; file++) {
         if (file->fd < 0) continue;
-        if (file->whole == 0 && i != REPORT_FILE) unlink(file->path);
-        else if (ftruncate(file->fd, (off_t)file->whole) < 0) say("%s: %s", file->path, strerror(errno));
+        if (file->size == 0 && file != &kept->files[REPORT_FILE]) unlink(file->path);
+        else if (ftruncate(file->fd, (off_t)file->size) < 0) say("%s: %s", file->path, strerror(errno));
     }
     kept->open = false;
     kept->retry = time(NULL) + RETRY_SECONDS;
-    atomic_fetch_or(&kept->cause, GAP);
     if (options.strict) end_bridge(1, "%s: %s", path, why);
     else say("%s: %s: trying again in %d seconds", path, why, RETRY_SECONDS);
 }
 
-/* Begins new files, for this cause if it is not 0. */
-static void begin_files(struct worker *w, uint32_t cause) {
+/* Begins new files, which are owed for a cause, or due. */
+static void begin_files(struct worker *w) {
     struct kept *kept = &w->kept;
     const char *why = NULL;
+    bool gap = kept->owed & GAP, renewed = kept->owed & RENEWED;
     int i = KEPT;
-    if (cause & RENEWED) put_time(kept->run, sizeof kept->run);
-    kept->part = cause & RENEWED ? 1 : kept->part + 1;
+    if (renewed) snprintf(kept->run, sizeof kept->run, "%s", time_word());
+    kept->part = renewed ? 1 : kept->part + 1;
     kept->since = time(NULL);
+    kept->owed = 0;
     while (i-- > 0 && !why) {
         if (kept->files[i].fd >= 0) close(kept->files[i].fd);
         kept->files[i].fd = -1;
-        if (kept->files[i].ring) why = open_file(w, i, cause & GAP);
+        if (i == REPORT_FILE ? options.report : options.keep) why = open_file(w, i, gap ? "-gap" : "");
     }
     kept->open = !why;
     if (why) fail_files(kept, i + 1, why);
-    else atomic_fetch_and(&kept->cause, ~cause);
-    if (!why && cause & GAP)
+    else if (gap)
         say("%s: frames before it are not kept: %ju so far", kept->files[options.keep ? KEPT_IN : REPORT_FILE].path,
             (uintmax_t)(GET(kept->lost) + GET(kept->unwritten)));
 }
 
-/* Writes what a ring has, or drops it while there are no files. Returns how much it was. */
-static uint64_t write_ring(struct kept *kept, int i) {
-    struct file *file = &kept->files[i];
-    uint64_t end = atomic_load_explicit(&file->put, memory_order_acquire), begin = GET(file->taken);
-    for (uint64_t at = begin; at < end;) {
-        size_t some = end - at < AT_ONCE ? end - at : AT_ONCE;
-        ssize_t got = kept->open ? write(file->fd, file->ring + at % ring_size, some) : (ssize_t)some;
-        if (got < 0) fail_files(kept, i, strerror(errno));
-        at += got < 0 ? 0 : (uint64_t)got;
-        file->size += got < 0 ? 0 : (uint64_t)got;
-        atomic_store_explicit(&file->taken, at, memory_order_release);
-    }
-    return end - begin;
-}
-
-/* Writes what a worker has kept, and begins new files where that is due. Returns how much it was. */
-static uint64_t write_round(struct worker *w) {
+/* Writes a block, in new files where that is due. */
+static void write_block(struct worker *w, const struct block *block) {
     struct kept *kept = &w->kept;
-    uint32_t cause = atomic_load_explicit(&kept->cause, memory_order_acquire);
-    uint64_t frames = GET(kept->frames), all = 0, longest = 0;
-    /* The report first: the captures then have at least its records. */
-    for (int i = KEPT; i-- > 0;) all += write_ring(kept, i);
-    for (int i = 0; i < KEPT; i++) {
-        kept->files[i].whole = kept->files[i].size;
-        if (kept->files[i].size > longest) longest = kept->files[i].size;
+    int64_t now = time(NULL);
+    bool due = options.keep && now >= kept->since + HOUR;
+    for (int i = 0; i < KEPT; i++) due = due || (options.rotate > 0 && kept->files[i].size >= options.rotate);
+    kept->owed |= block->cause | (kept->open ? 0 : GAP);
+    if ((due || kept->owed) && now >= kept->retry) begin_files(w);
+    for (int i = 0; i < KEPT && kept->open; i++) {
+        int from = i == REPORT_FILE ? KEPT_REPORT : i;
+        if (kept->files[i].fd >= 0 && !write_whole(kept->files[i].fd, block->octets[from], block->filled[from]))
+            fail_files(kept, i, strerror(errno));
     }
-    if (!kept->open) ADD(kept->unwritten, frames - kept->seen);
-    kept->seen = frames;
-    if (options.rotate && longest >= options.rotate) kept->since = 0;
-    bool due = (options.keep || kept->since == 0) && longest > CAPTURE_HEAD && time(NULL) >= kept->since + HOUR;
-    if ((due || cause) && time(NULL) >= kept->retry) begin_files(w, cause);
-    return all;
+    for (int i = 0; i < KEPT && kept->open; i++) kept->files[i].size += block->filled[i == REPORT_FILE ? KEPT_REPORT : i];
+    if (!kept->open) ADD(kept->unwritten, block->frames);
 }
 
 /* The thread that writes, until the workers have ended and all is written. */
 void *write_kept(void *unused) {
-    for (bool last = false; !last;) {
-        uint64_t all = 0;
+    for (bool last = false; !last && room > 0;) {
         last = atomic_load(&ended) == options.jobs;
-        for (uint64_t j = 0; j < options.jobs; j++) all += write_round(&workers[j]);
-        if (all < ring_size / 8 && !last) poll(NULL, 0, NAP_MILLISECONDS);
+        for (struct worker *w = workers; w < workers + options.jobs; w++) {
+            for (struct block *block = w->kept.blocks; block < w->kept.blocks + 2; block++) {
+                if (!atomic_load_explicit(&block->full, memory_order_acquire)) continue;
+                write_block(w, block);
+                atomic_store_explicit(&block->full, false, memory_order_release);
+            }
+            if (last) write_block(w, &w->kept.blocks[w->kept.current]);
+        }
+        poll(NULL, 0, last ? 0 : NAP_MILLISECONDS);
     }
     atomic_store(&written, 1);
     raise_event();
     return unused;
 }
 
-/* Maps a ring twice in a row, so that nothing in it is in two parts. */
-static unsigned char *make_ring(void) {
-    int memory = memfd_create("kept", MFD_CLOEXEC), how = MAP_SHARED | MAP_FIXED | MAP_POPULATE;
-    unsigned char *at = mmap(NULL, 2 * ring_size, PROT_NONE, MAP_PRIVATE | MAP_ANONYMOUS, -1, 0);
-    if (memory < 0 || at == MAP_FAILED || ftruncate(memory, (off_t)ring_size) < 0
-        || mmap(at, ring_size, PROT_READ | PROT_WRITE, how, memory, 0) == MAP_FAILED
-        || mmap(at + ring_size, ring_size, PROT_READ | PROT_WRITE, how, memory, 0) == MAP_FAILED)
-        fail(1, "memory for files: %s", strerror(errno));
-    close(memory);
-    return at;
-}
-
-/* Makes the rings, and opens the first files. */
+/* Allocates the blocks, and opens the first files. */
 void open_kept(void) {
-    char run[sizeof workers[0].kept.run];
     if (!options.keep && !options.report) return;
-    put_time(run, sizeof run);
-    ring_size = RING / options.jobs > LEAST_RING ? RING / options.jobs / PAGE * PAGE : LEAST_RING;
-    for (uint64_t j = 0; j < options.jobs; j++) {
+    room = ROOM / options.jobs > LEAST_ROOM ? ROOM / options.jobs : LEAST_ROOM;
+    snprintf(workers[0].kept.run, sizeof workers[0].kept.run, "%s", time_word());
+    for (struct worker *w = workers; w < workers + options.jobs; w++) {
         for (int i = 0; i < KEPT; i++) {
-            workers[j].kept.files[i].fd = -1;
-            if (i == REPORT_FILE ? options.report : options.keep) workers[j].kept.files[i].ring = make_ring();
+            w->kept.files[i].fd = -1;
+            for (int b = 0; b < 2 && i < REPORT_FILE; b++)
+                if ((w->kept.blocks[b].octets[i] = calloc(1, room + LAST_LINE)) == NULL) fail(1, "no memory for files");
         }
-        memcpy(workers[j].kept.run, run, sizeof run);
-        begin_files(&workers[j], 0);
+        memcpy(w->kept.run, workers[0].kept.run, sizeof w->kept.run);
+        begin_files(w);
     }
     started = true;
 }

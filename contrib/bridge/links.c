@@ -170,7 +170,8 @@ void open_sides(void) {
     for (int k = 0; k < SIDES; k++)
         for (bool said = false; !sides[k].up; said = true) {
             if (!said) say("%s is down: waiting until it is up", sides[k].name);
-            wait_second();
+            wait_once();
+            if (is_ending()) exit(0);
             if (!link_exists(&sides[k])) fail(1, "%s is gone", sides[k].name);
             ask(RTM_GETLINK);
         }

@@ -9,7 +9,6 @@
 #include <stdarg.h>
 #include <sys/eventfd.h>
 #include <sys/prctl.h>
-#include <sys/signalfd.h>
 #include <sys/syscall.h>
 
 enum { WRITE_SECONDS = 10, CAPABILITIES = 64 };
@@ -19,8 +18,8 @@ struct side sides[SIDES];
 struct worker workers[JOBS];
 atomic_uint state;
 int stop_event;
-/* Signals, and what other threads have for the main thread. */
-static int signals, event;
+/* The signals that the main thread waits for; SIGUSR2 is sent by the other threads. */
+static sigset_t heard;
 /* How the bridge ends; -1 as long as it does not. */
 static atomic_int status = -1;
 
@@ -42,7 +41,7 @@ uint64_t now_of(clockid_t clock) {
     return (uint64_t)now.tv_sec * 1000000000 + (uint64_t)now.tv_nsec;
 }
 
-void raise_event(void) { eventfd_write(event, 1); }
+void raise_event(void) { kill(getpid(), SIGUSR2); }
 
 bool is_first_end(int how) {
     int none = -1;
@@ -51,24 +50,20 @@ bool is_first_end(int how) {
     return first;
 }
 
-/* Prepares signals and events. Descriptors 0 to 2 are opened first, so that no other file becomes one of them. */
-static void open_events(void) {
-    sigset_t taken;
+bool is_ending(void) { return atomic_load(&status) >= 0; }
+
+/* Prepares signals. Descriptors 0 to 2 are opened first, so that no other file becomes one of them. */
+static void begin_signals(void) {
+    static const int ignored[] = {SIGPIPE, SIGHUP, SIGXFSZ}, taken[] = {SIGINT, SIGTERM, SIGUSR1, SIGUSR2, SIGALRM};
     int opened;
     while ((opened = open("/dev/null", O_RDWR)) >= 0 && opened <= 2) {}
     close(opened);
-    signal(SIGPIPE, SIG_IGN);
-    signal(SIGHUP, SIG_IGN);
-    signal(SIGXFSZ, SIG_IGN);
-    sigemptyset(&taken);
-    sigaddset(&taken, SIGINT);
-    sigaddset(&taken, SIGTERM);
-    sigaddset(&taken, SIGUSR1);
-    sigprocmask(SIG_BLOCK, &taken, NULL);
-    signals = signalfd(-1, &taken, SFD_CLOEXEC | SFD_NONBLOCK);
-    event = eventfd(0, EFD_CLOEXEC | EFD_NONBLOCK);
-    stop_event = eventfd(0, EFD_CLOEXEC | EFD_NONBLOCK);
-    if (signals < 0 || event < 0 || stop_event < 0) fail(1, "events: %s", strerror(errno));
+    for (size_t i = 0; i < sizeof ignored / sizeof *ignored; i++) signal(ignored[i], SIG_IGN);
+    sigemptyset(&heard);
+    for (size_t i = 0; i < sizeof taken / sizeof *taken; i++) sigaddset(&heard, taken[i]);
+    sigprocmask(SIG_BLOCK, &heard, NULL);
+    stop_event = eventfd(0, EFD_CLOEXEC);
+    if (stop_event < 0) fail(1, "eventfd: %s", strerror(errno));
 }
 
 /* Gives up all privileges for good: the interfaces are open. */
@@ -123,8 +118,8 @@ static uint64_t sum(const count *first) {
     return all;
 }
 
-/* Prints all counts in one line, and the waits since the last line. */
-static void print_counts(void) {
+/* Prints all counts in one line, with the waits since the start, or since the last line of --every. */
+static void print_counts(bool since_start) {
     static const char *const names[] = {"outside", "inside"}, *const verdicts[] = {"pass", "fix", "hold", "drop"},
                       *const fates[] = {"given", "forged", "arp", "unjudged", "too-long", "truncated"};
     static uint64_t before[BUCKETS];
@@ -135,8 +130,9 @@ static void print_counts(void) {
     FILE *line = open_memstream(&text, &size);
     read_kernel();
     for (int i = 0; i < BUCKETS; i++) {
-        waits[i] = sum(&w->waits[i]) - before[i];
-        before[i] += waits[i];
+        uint64_t all = sum(&w->waits[i]);
+        waits[i] = since_start ? all : all - before[i];
+        if (!since_start) before[i] = all;
     }
     for (const struct port *port = w->ports; port < w->ports + SIDES; port++) {
         fprintf(line, "%s: received %ju", names[port - w->ports], (uintmax_t)sum(&port->received));
@@ -154,44 +150,23 @@ static void print_counts(void) {
     free(text);
 }
 
-/* The first signal ends the bridge once what it has is sent and written; a second one does so at once. */
-static void take_signals(void) {
-    struct signalfd_siginfo one;
-    while (read(signals, &one, sizeof one) == sizeof one) {
-        if (one.ssi_signo == SIGUSR1) {
-            print_counts();
-        } else if (is_first_end(0)) {
-            say("ending by %s", one.ssi_signo == SIGINT ? "SIGINT" : "SIGTERM");
-        } else {
-            say("ending at once by a second signal");
-            _exit(1);
-        }
+/* Waits for a signal, for a second at most. The first one that ends the bridge has it finish its work. */
+void wait_once(void) {
+    int one = sigtimedwait(&heard, NULL, &(struct timespec){1, 0});
+    if (one == SIGUSR1) print_counts(true);
+    if (one != SIGINT && one != SIGTERM && one != SIGALRM) return;
+    if (one != SIGALRM && is_first_end(0)) {
+        say("ending by %s", one == SIGINT ? "SIGINT" : "SIGTERM");
+        return;
     }
-}
-
-void wait_second(void) {
-    poll(&(struct pollfd){signals, POLLIN, 0}, 1, 1000);
-    take_signals();
-    if (atomic_load(&status) >= 0) exit(0);
-}
-
-/* Warns once of frames that are not as they are on the wire. */
-static void warn_of_frames(int k) {
-    static bool cut[SIDES], unfilled[SIDES];
-    if (!cut[k] && sum(&workers[0].ports[k].fates[NORM_TRUNCATED]) > 0) {
-        cut[k] = true;
-        say("warning: frames longer than the MTU: ethtool -K %s gro off lro off gso off tso off", sides[k].name);
-    }
-    if (!unfilled[k] && sum(&workers[0].ports[k].unfilled) > 0) {
-        unfilled[k] = true;
-        say("warning: checksums from %s are left to a card: ethtool -K DEV tx off at the senders, or -- --offload",
-            sides[k].name);
-    }
+    say("ending at once: %s", one == SIGALRM ? "files could not be written in time" : "a second signal");
+    _exit(1);
 }
 
 /* Once a second: does each interface exist, and is something to be said? */
 static void tick(void) {
     static uint64_t last, printed;
+    static bool warned[SIDES];
     uint64_t now = now_of(CLOCK_MONOTONIC) / 1000000000;
     if (now == last) return;
     last = now;
@@ -199,28 +174,25 @@ static void tick(void) {
     read_kernel();
     for (int k = 0; k < SIDES; k++) {
         if (!link_exists(&sides[k])) end_bridge(1, "%s is gone", sides[k].name);
-        warn_of_frames(k);
+        if (warned[k] || sum(&workers[0].ports[k].unlike) == 0) continue;
+        warned[k] = true;
+        say("warning: frames of %s were merged, or lack checksums: ethtool -K DEV gro off lro off gso off tso off tx off, "
+            "here and at the senders", sides[k].name);
     }
     if (options.every == 0 || now < printed + options.every) return;
     printed += options.every;
-    print_counts();
+    print_counts(false);
 }
 
-/* Waits until a count is reached, or for some seconds if they are not 0. Returns whether it is. */
-static bool wait_for(atomic_uint *counted, uint64_t wanted, uint64_t seconds) {
-    struct pollfd waits[] = {{signals, POLLIN, 0}, {event, POLLIN, 0}};
-    uint64_t until = seconds == 0 ? UINT64_MAX : now_of(CLOCK_MONOTONIC) + seconds * 1000000000;
-    eventfd_t some;
-    while (atomic_load(counted) < wanted && now_of(CLOCK_MONOTONIC) < until) {
-        poll(waits, 2, 1000);
-        eventfd_read(event, &some);
-        take_signals();
+/* Waits until so many of the other threads have come so far. If the bridge is to end, they receive nothing any more. */
+static void wait_for(const atomic_uint *threads, uint64_t wanted) {
+    while (atomic_load(threads) < wanted) {
+        wait_once();
         tick();
-        if (atomic_load(&status) < 0 || atomic_exchange(&state, STOPPING) == STOPPING) continue;
+        if (!is_ending() || atomic_exchange(&state, STOPPING) == STOPPING) continue;
         set_filters(false);
         eventfd_write(stop_event, 1);
     }
-    return atomic_load(counted) >= wanted;
 }
 
 static void begin_thread(void *(*run)(void *), void *user) {
@@ -229,7 +201,7 @@ static void begin_thread(void *(*run)(void *), void *user) {
 }
 
 int main(int count, char **words) {
-    open_events();
+    begin_signals();
     read_words(count, words);
     open_sides();
     if (!options.without_norm) make_engine_words();
@@ -238,19 +210,17 @@ int main(int count, char **words) {
         workers[j].number = j;
         begin_thread(work, &workers[j]);
     }
-    wait_for(&ready, options.jobs, 0);
-    if (atomic_load(&status) >= 0) exit(atomic_load(&status));
+    wait_for(&ready, options.jobs);
+    if (is_ending()) exit(status);
     open_kept();
     begin_thread(write_kept, NULL);
     if (options.without_norm) say("warning: frames pass without norm");
     warn_of_sides();
     atomic_store(&state, PASSING);
     set_filters(true);
-    wait_for(&ended, options.jobs, 0);
-    if (!wait_for(&written, 1, WRITE_SECONDS)) {
-        say("files could not be written in %d seconds", WRITE_SECONDS);
-        atomic_store(&status, 1);
-    }
-    print_counts();
-    return atomic_load(&status);
+    wait_for(&ended, options.jobs);
+    alarm(WRITE_SECONDS);
+    wait_for(&written, 1);
+    print_counts(true);
+    return status;
 }

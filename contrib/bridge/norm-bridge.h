@@ -16,7 +16,7 @@
 
 enum { SIDES = 2, FATES = NORM_TRUNCATED + 1, VERDICTS = NORM_DROP + 1, JOBS = 64 };
 /* Frames that are read or sent at once, and octets of a frame at most. */
-enum { BATCH = 64, LONGEST = 65549 };
+enum { BATCH = 64, LONGEST = 65549, COPIES = 1 << 20 };
 /* Of waits, sixteen for each power of two of microseconds. */
 enum { BUCKETS = 512 };
 enum { KEPT_IN, KEPT_OUT, KEPT_REPORT, REPORT_FILE, KEPT };
@@ -37,26 +37,31 @@ struct port {
     uint64_t times[BATCH];
     /* The send queue was full for as long as it is waited for, and nothing was sent since. */
     bool stuck;
-    /* Frames received, what became of them, and those whose checksum was left to a card. */
-    count received, fates[FATES], unfilled, sent, failed, kernel;
+    /* Frames received, what became of them, and those that are not as they were on the wire. */
+    count received, fates[FATES], unlike, sent, failed, kernel;
 };
 
-/* A file, the ring of what it lacks, and how long it was when all had whole records of the same frames. */
-struct file {
-    unsigned char *ring;
-    count put, taken;
-    uint64_t draft, size, whole;
-    int fd;
-    char path[4096];
+/* What a worker has kept of frames: octets for each file, and why new files begin with them. */
+struct block {
+    atomic_bool full;
+    uint32_t cause;
+    uint64_t frames;
+    size_t filled[KEPT];
+    uint8_t *octets[KEPT];
 };
 
-/* What a worker keeps: nothing while there is a cause for new files, which the thread that writes has yet to begin. */
+/* The worker fills one block; the other one, while it is full, and the rest are of the thread that writes. */
 struct kept {
-    struct file files[KEPT];
-    bool full, open;
-    atomic_uint cause;
-    count frames, lost, unwritten;
-    uint64_t seen;
+    struct block blocks[2];
+    int current;
+    uint32_t cause, owed;
+    count lost, unwritten;
+    struct file {
+        int fd;
+        uint64_t size;
+        char path[4096];
+    } files[KEPT];
+    bool open;
     unsigned part;
     int64_t since, retry;
     char run[32];
@@ -72,7 +77,7 @@ struct worker {
     bool broken;
     struct port ports[SIDES];
     /* Copies of the frames that leave changed, until they are sent. */
-    unsigned char *copies;
+    uint8_t copies[COPIES];
     size_t copied;
     count wrote, verdicts[VERDICTS], waits[BUCKETS];
     struct kept kept;
@@ -97,9 +102,9 @@ enum { STARTING, PASSING, STOPPING };
 extern atomic_uint state, ready, ended, written;
 extern int stop_event;
 void say(const char *form, ...) __attribute__((format(printf, 1, 2)));
-bool is_first_end(int status);
+bool is_first_end(int status), is_ending(void);
 void raise_event(void);
-void wait_second(void);
+void wait_once(void);
 uint64_t now_of(clockid_t clock);
 
 /* words.c: the words that engines are opened with have one space between each two. */
@@ -114,10 +119,14 @@ void warn_of_sides(void);
 void set_filters(bool receive);
 bool link_exists(const struct side *side);
 
-/* worker.c, keep.c: `keep` is of a frame that was judged, `keep_end` of the end of an engine. */
+/* worker.c */
 void *work(void *worker);
+
+/* keep.c: of a frame that was judged; at the end of a pass, which returns false if it is to be tried again; of an engine's end. */
+void keep(struct worker *w, const struct norm_arrival *when, const uint8_t *frame, size_t size,
+          const struct norm_answer *answer);
+bool keep_pass(struct worker *w);
+void keep_end(struct worker *w, bool renewed);
 void open_kept(void);
 void *write_kept(void *unused);
-void keep(struct worker *w, const struct norm_arrival *when, const uint8_t *frame, size_t size, const struct norm_answer *answer);
-void keep_end(struct worker *w, bool renewed);
 #endif

@@ -1,8 +1,8 @@
 /* A worker: the path of a frame from a ring to the engine, and from there to an interface. */
 #include "norm-bridge.h"
 
-/* Octets for copies, and how often, and after which nanoseconds, a full send queue is tried again. */
-enum { COPIES = 1 << 20, SEND_TRIES = 25, SEND_PAUSE = 200000 };
+/* How often, and after which nanoseconds, a full send queue is tried again; and milliseconds for files. */
+enum { SEND_TRIES = 25, SEND_PAUSE = 200000, KEEP_PAUSE = 5 };
 
 atomic_uint ready, ended;
 
@@ -11,7 +11,8 @@ static void count_waits(struct worker *w, const uint64_t *times, int frames) {
     uint64_t now = now_of(CLOCK_REALTIME);
     for (int i = 0; i < frames; i++) {
         uint64_t wait = now > times[i] ? (now - times[i]) / 1000 : 0;
-        unsigned power = wait < 32 ? 0 : 59 - (unsigned)__builtin_clzll(wait), bucket = power * 16 + (unsigned)(wait >> power);
+        unsigned power = wait < 32 ? 0 : 59 - (unsigned)__builtin_clzll(wait);
+        unsigned bucket = power * 16 + (unsigned)(wait >> power);
         ADD(w->waits[bucket < BUCKETS ? bucket : BUCKETS - 1], 1);
     }
 }
@@ -52,28 +53,23 @@ static bool open_engine(struct worker *w) {
     return result == NORM_DONE;
 }
 
-/* Has a new engine follow one that has judged 2^32 - 1 records. */
-static bool renew_engine(struct worker *w) {
-    uint64_t began = now_of(CLOCK_MONOTONIC);
-    keep_end(w, true);
-    if (!open_engine(w)) return false;
-    say("engine %d has judged 4294967295 records: a new one was opened in %ju microseconds", w->number,
-        (uintmax_t)((now_of(CLOCK_MONOTONIC) - began) / 1000));
-    return true;
+/* Answers as if norm passed each frame that it could judge. */
+static void pass_by(const struct norm_arrival *arrival, size_t size, struct norm_answer *answer) {
+    uint32_t fate = arrival->tag ? NORM_UNJUDGED : arrival->original > size ? NORM_TRUNCATED : NORM_JUDGED;
+    bool passes = fate == NORM_JUDGED;
+    *answer = (struct norm_answer){.fate = fate, .frames = passes, .port = !arrival->port, .as_read = passes};
 }
 
-/* Judges a frame. Returns false if the bridge ends. */
+/* Judges a frame. Returns false if the bridge ends. An engine takes 2^32 - 1 records: a new one follows it. */
 static bool judge(struct worker *w, const struct norm_arrival *arrival, const uint8_t *frame, size_t size,
                   struct norm_answer *answer) {
-    if (options.without_norm) {
-        uint32_t fate = arrival->tag ? NORM_UNJUDGED : arrival->original > size ? NORM_TRUNCATED : NORM_JUDGED;
-        bool crosses = fate == NORM_JUDGED;
-        *answer = (struct norm_answer){.fate = fate, .frames = crosses, .port = !arrival->port, .as_read = crosses};
-        return true;
-    }
     uint32_t result = norm_step(&w->engine, arrival, frame, size, answer);
     if (result == NORM_FULL) {
-        if (!renew_engine(w)) return false;
+        uint64_t began = now_of(CLOCK_MONOTONIC);
+        keep_end(w, true);
+        if (!open_engine(w)) return false;
+        say("engine %d is full: a new one was opened in %ju microseconds", w->number,
+            (uintmax_t)((now_of(CLOCK_MONOTONIC) - began) / 1000));
         result = norm_step(&w->engine, arrival, frame, size, answer);
     }
     if (result != NORM_DONE) end_bridge(1, "engine %d answers %u to a frame", w->number, result);
@@ -101,21 +97,22 @@ static void leave(struct worker *w, const struct norm_answer *answer, uint32_t i
 static void take(struct worker *w, uint32_t k, const struct tpacket2_hdr *slot) {
     struct port *from = &w->ports[k];
     const uint8_t *frame = (const uint8_t *)slot + slot->tp_mac;
+    size_t size = slot->tp_snaplen;
+    uint64_t time = slot->tp_sec * UINT64_C(1000000000) + slot->tp_nsec;
+    uint32_t tag = slot->tp_status & TP_STATUS_VLAN_VALID ? 65536 + slot->tp_vlan_tci : 0;
+    const struct norm_arrival arrival = {k, tag, slot->tp_sec, slot->tp_nsec, slot->tp_len};
     struct norm_answer answer;
-    struct norm_arrival arrival = {
-        k, slot->tp_status & TP_STATUS_VLAN_VALID ? 65536 + slot->tp_vlan_tci : 0, slot->tp_sec, slot->tp_nsec, slot->tp_len,
-    };
     ADD(from->received, 1);
-    if (slot->tp_status & TP_STATUS_CSUMNOTREADY) ADD(from->unfilled, 1);
-    w->broken = !judge(w, &arrival, frame, slot->tp_snaplen, &answer);
+    if (slot->tp_status & TP_STATUS_CSUMNOTREADY || slot->tp_len > size) ADD(from->unlike, 1);
+    if (options.without_norm) pass_by(&arrival, size, &answer);
+    else w->broken = !judge(w, &arrival, frame, size, &answer);
     if (w->broken) return;
     ADD(from->fates[answer.fate], 1);
-    for (uint32_t i = 0; i < answer.frames; i++)
-        leave(w, &answer, i, frame, slot->tp_snaplen, slot->tp_sec * UINT64_C(1000000000) + slot->tp_nsec);
+    for (uint32_t i = 0; i < answer.frames; i++) leave(w, &answer, i, frame, size, time);
     if (answer.fate != NORM_JUDGED) return;
     ADD(w->wrote, answer.frames);
     if (answer.records > 0) ADD(w->verdicts[answer.verdict], answer.records);
-    keep(w, &arrival, frame, slot->tp_snaplen, &answer);
+    keep(w, &arrival, frame, size, &answer);
 }
 
 static struct tpacket2_hdr *slot_at(const struct port *port, unsigned number) {
@@ -139,10 +136,10 @@ static bool pass(struct worker *w, uint32_t k) {
     return got > 0;
 }
 
-/* Waits until a ring has something, or the bridge ends. */
-static void wait_for_frames(const struct worker *w) {
+/* Waits until a ring has something, the bridge ends, or so many milliseconds have passed. */
+static void wait_for_frames(const struct worker *w, int milliseconds) {
     struct pollfd waits[] = {{w->ports[0].socket, POLLIN, 0}, {w->ports[1].socket, POLLIN, 0}, {stop_event, POLLIN, 0}};
-    poll(waits, SIDES + 1, -1);
+    poll(waits, SIDES + 1, milliseconds);
     for (int k = 0; k < SIDES; k++) {
         int error;
         socklen_t size = sizeof error;
@@ -154,15 +151,14 @@ static void wait_for_frames(const struct worker *w) {
 /* Passes frames until the bridge ends and the rings are empty. */
 void *work(void *user) {
     struct worker *w = user;
-    w->copies = malloc(COPIES);
-    if (!w->copies) end_bridge(1, "memory could not be allocated");
-    w->broken = !w->copies || !open_engine(w);
+    w->broken = !open_engine(w);
     atomic_fetch_add(&ready, 1);
     raise_event();
     while (!w->broken) {
         bool last = atomic_load(&state) == STOPPING, out = pass(w, NORM_OUTSIDE), in = pass(w, NORM_INSIDE);
+        bool kept = keep_pass(w);
         if (!out && !in && last) break;
-        if (!out && !in) wait_for_frames(w);
+        if (!out && !in) wait_for_frames(w, kept ? -1 : KEEP_PAUSE);
     }
     if (!w->broken) keep_end(w, false);
     norm_close(&w->engine);
