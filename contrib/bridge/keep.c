@@ -1,6 +1,6 @@
 /*
  * Files: IN, OUT and report of each run in a folder, and the report alone. A worker copies what is
- * kept into one of two blocks, and one thread writes the other, so that no disk delays a frame.
+ * kept into a block, and one thread writes the blocks that are full, so that no disk delays a frame.
  */
 #include "norm-bridge.h"
 #include <fcntl.h>
@@ -51,16 +51,17 @@ static bool add(struct worker *w, const struct norm_arrival *when, const uint8_t
     return whole;
 }
 
-/* Hands the worker's block over, if the other one is written. Returns whether that one is the worker's now. */
+/* Hands the worker's block over, if the next one was written. Returns whether that is the worker's now. */
 static bool hand_over(struct worker *w) {
     struct kept *kept = &w->kept;
-    struct block *next = &kept->blocks[!kept->current];
+    int after = (kept->current + 1) % BLOCKS;
+    struct block *next = &kept->blocks[after];
     if (atomic_load_explicit(&next->full, memory_order_acquire)) return false;
     next->frames = 0;
     next->cause = kept->cause;
     memset(next->filled, 0, sizeof next->filled);
     atomic_store_explicit(&kept->blocks[kept->current].full, true, memory_order_release);
-    kept->current = !kept->current;
+    kept->current = after;
     kept->cause = 0;
     return true;
 }
@@ -76,7 +77,12 @@ void keep(struct worker *w, const struct norm_arrival *when, const uint8_t *fram
     if (options.strict) end_bridge(1, "the disk is too slow for --strict");
 }
 
-bool keep_pass(struct worker *w) { return w->kept.blocks[w->kept.current].frames == 0 || hand_over(w); }
+bool keep_pass(struct worker *w) {
+    const struct kept *kept = &w->kept;
+    if (kept->blocks[kept->current].frames == 0) return true;
+    /* While one is being written, the others are for what does not fit, or is of a new engine. */
+    return !atomic_load(&kept->blocks[(kept->current + BLOCKS - 1) % BLOCKS].full) && hand_over(w);
+}
 
 void keep_end(struct worker *w, bool renewed) {
     if (room == 0 || (w->kept.cause && !hand_over(w))) return;
@@ -191,12 +197,13 @@ void *write_kept(void *unused) {
     for (bool last = false; !last && room > 0;) {
         last = atomic_load(&ended) == options.jobs;
         for (struct worker *w = workers; w < workers + options.jobs; w++) {
-            for (struct block *block = w->kept.blocks; block < w->kept.blocks + 2; block++) {
-                if (!atomic_load_explicit(&block->full, memory_order_acquire)) continue;
+            struct block *block;
+            while (block = &w->kept.blocks[w->kept.writing], atomic_load_explicit(&block->full, memory_order_acquire)) {
                 write_block(w, block);
                 atomic_store_explicit(&block->full, false, memory_order_release);
+                w->kept.writing = (w->kept.writing + 1) % BLOCKS;
             }
-            if (last) write_block(w, &w->kept.blocks[w->kept.current]);
+            if (last) write_block(w, block);
         }
         poll(NULL, 0, last ? 0 : NAP_MILLISECONDS);
     }
@@ -213,7 +220,7 @@ void open_kept(void) {
     for (struct worker *w = workers; w < workers + options.jobs; w++) {
         for (int i = 0; i < KEPT; i++) {
             w->kept.files[i].fd = -1;
-            for (int b = 0; b < 2 && i < REPORT_FILE; b++)
+            for (int b = 0; b < BLOCKS && i < REPORT_FILE; b++)
                 if ((w->kept.blocks[b].octets[i] = calloc(1, room + LAST_LINE)) == NULL) fail(1, "no memory for files");
         }
         memcpy(w->kept.run, workers[0].kept.run, sizeof w->kept.run);

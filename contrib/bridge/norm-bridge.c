@@ -128,6 +128,7 @@ static void print_counts(bool since_start) {
     char *text = NULL;
     size_t size;
     FILE *line = open_memstream(&text, &size);
+    if (!line) return;
     read_kernel();
     for (int i = 0; i < BUCKETS; i++) {
         uint64_t all = sum(&w->waits[i]);
@@ -198,6 +199,7 @@ static void wait_for(const atomic_uint *threads, uint64_t wanted) {
 static void begin_thread(void *(*run)(void *), void *user) {
     pthread_t thread;
     if (pthread_create(&thread, NULL, run, user) != 0) fail(1, "a thread could not be started");
+    pthread_detach(thread);
 }
 
 int main(int count, char **words) {

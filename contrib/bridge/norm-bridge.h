@@ -19,7 +19,7 @@ enum { SIDES = 2, FATES = NORM_TRUNCATED + 1, VERDICTS = NORM_DROP + 1, JOBS = 6
 enum { BATCH = 64, LONGEST = 65549, COPIES = 1 << 20 };
 /* Of waits, sixteen for each power of two of microseconds. */
 enum { BUCKETS = 512 };
-enum { KEPT_IN, KEPT_OUT, KEPT_REPORT, REPORT_FILE, KEPT };
+enum { KEPT_IN, KEPT_OUT, KEPT_REPORT, REPORT_FILE, KEPT, BLOCKS = 3 };
 
 /* A counter has one thread that writes it; the main thread reads it. */
 typedef _Atomic uint64_t count;
@@ -50,10 +50,10 @@ struct block {
     uint8_t *octets[KEPT];
 };
 
-/* The worker fills one block; the other one, while it is full, and the rest are of the thread that writes. */
+/* The worker fills the current block. The thread that writes has those that are full, and what follows `unwritten`. */
 struct kept {
-    struct block blocks[2];
-    int current;
+    struct block blocks[BLOCKS];
+    int current, writing;
     uint32_t cause, owed;
     count lost, unwritten;
     struct file {

@@ -154,6 +154,7 @@ void make_engine_words(void) {
     unsigned mtu = sides[0].mtu < sides[1].mtu ? sides[0].mtu : sides[1].mtu;
     const char *given = norm_value("--mtu");
     uint64_t seed = 0;
+    if (!text) fail(1, "memory could not be allocated");
     if (mtu < LEAST_MTU) fail(2, "an MTU of %u: norm needs %d", mtu, LEAST_MTU);
     if (given && strtoull(given, NULL, 10) > mtu) fail(2, "--mtu %s: the interfaces have %u", given, mtu);
     fputs("run", text);
@@ -169,5 +170,5 @@ void make_engine_words(void) {
     }
     fputs(" in out", text);
     for (int i = 0; i < prefix_count; i++) fprintf(text, " %s", prefixes[i]);
-    if (fclose(text) != 0) fail(1, "memory could not be allocated");
+    fclose(text);
 }
