@@ -132,7 +132,6 @@ static const char *open_file(struct worker *w, int i, const char *mark) {
     if (file->fd < 0) return strerror(errno);
     if (fstat(file->fd, &about) < 0 || !S_ISREG(about.st_mode)) return "it is no regular file";
     size_t head = capture ? CAPTURE_HEAD : w->kept.part == 1 ? w->first_size : 0;
-    file->size = 0;
     if (!write_whole(file->fd, capture ? (const void *)capture_head : w->first, head)) return strerror(errno);
     file->size = head;
     return NULL;
@@ -141,10 +140,11 @@ static const char *open_file(struct worker *w, int i, const char *mark) {
 /* Ends the files with whole records of the same frames, and says why. They begin again some seconds later. */
 static void fail_files(struct kept *kept, int failed, const char *why) {
     const char *path = kept->files[failed].path;
+    bool empty = kept->files[KEPT_IN].size <= CAPTURE_HEAD;
     if (!started) fail(2, "%s: %s (it is opened as the user of --user)", path, why);
     for (struct file *file = kept->files; file < kept->files + KEPT; file++) {
         if (file->fd < 0) continue;
-        if (file->size == 0 && file != &kept->files[REPORT_FILE]) unlink(file->path);
+        if (empty && file != &kept->files[REPORT_FILE]) unlink(file->path);
         else if (ftruncate(file->fd, (off_t)file->size) < 0) say("%s: %s", file->path, strerror(errno));
     }
     kept->open = false;
@@ -158,16 +158,18 @@ static void begin_files(struct worker *w) {
     struct kept *kept = &w->kept;
     const char *why = NULL;
     bool gap = kept->owed & GAP, renewed = kept->owed & RENEWED;
-    int i = KEPT;
+    int i;
     if (renewed) snprintf(kept->run, sizeof kept->run, "%s", time_word());
     kept->part = renewed ? 1 : kept->part + 1;
     kept->since = time(NULL);
     kept->owed = 0;
-    while (i-- > 0 && !why) {
+    for (i = 0; i < KEPT; i++) {
         if (kept->files[i].fd >= 0) close(kept->files[i].fd);
         kept->files[i].fd = -1;
-        if (i == REPORT_FILE ? options.report : options.keep) why = open_file(w, i, gap ? "-gap" : "");
+        kept->files[i].size = 0;
     }
+    while (i-- > 0 && !why)
+        if (i == REPORT_FILE ? options.report : options.keep) why = open_file(w, i, gap ? "-gap" : "");
     kept->open = !why;
     if (why) fail_files(kept, i + 1, why);
     else if (gap)
