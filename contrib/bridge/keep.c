@@ -18,30 +18,30 @@ static size_t room;
 static bool started;
 atomic_uint written;
 
-/* Adds a record: a frame, or if it is NULL the one of this index that the engine has written. */
-static bool add_frame(struct worker *w, struct block *block, int i, const struct norm_arrival *when, const uint8_t *frame,
-                      size_t size, uint32_t index) {
+/* Adds a record: the frame that was read, or the one of this index that the engine has written. */
+static bool add_frame(struct worker *w, struct block *block, int i, const struct taken *read, uint32_t index) {
     uint8_t *at = block->octets[i] + block->filled[i];
     size_t left = room - block->filled[i];
-    struct norm_frame copy = {size, 0};
-    if (left < RECORD_HEAD + (frame ? size : 0)) return false;
-    if (frame) memcpy(at + RECORD_HEAD, frame, size);
+    bool same = i == KEPT_IN || read->answer.as_read;
+    struct norm_frame copy = {read->size, 0};
+    if (left < RECORD_HEAD + (same ? read->size : 0)) return false;
+    if (same) memcpy(at + RECORD_HEAD, read->octets, read->size);
     else if (norm_frame(&w->engine, index, at + RECORD_HEAD, left - RECORD_HEAD, &copy) != NORM_DONE) return false;
-    memcpy(at, (uint32_t[]){when->seconds, when->fraction, (uint32_t)copy.size, (uint32_t)copy.size}, RECORD_HEAD);
+    uint32_t size = (uint32_t)copy.size, head[] = {read->arrival.seconds, read->arrival.fraction, size, size};
+    memcpy(at, head, RECORD_HEAD);
     block->filled[i] += RECORD_HEAD + copy.size;
     return true;
 }
 
 /* Adds all that is kept of a frame, or nothing. */
-static bool add(struct worker *w, const struct norm_arrival *when, const uint8_t *frame, size_t size,
-                const struct norm_answer *answer) {
+static bool add(struct worker *w, const struct taken *read) {
     struct block *block = &w->kept.blocks[w->kept.current];
     size_t before[KEPT];
     memcpy(before, block->filled, sizeof before);
-    bool whole = !options.keep || add_frame(w, block, KEPT_IN, when, frame, size, 0);
-    for (uint32_t i = 0; i < answer->frames && options.keep && whole; i++)
-        whole = add_frame(w, block, KEPT_OUT, when, answer->as_read ? frame : NULL, size, i);
-    for (uint32_t i = 0; i < answer->records && whole; i++) {
+    bool whole = !options.keep || add_frame(w, block, KEPT_IN, read, 0);
+    for (uint32_t i = 0; i < read->answer.frames && options.keep && whole; i++)
+        whole = add_frame(w, block, KEPT_OUT, read, i);
+    for (uint32_t i = 0; i < read->answer.records && whole; i++) {
         size_t *filled = &block->filled[KEPT_REPORT], line = 0;
         whole = norm_line(&w->engine, i, block->octets[KEPT_REPORT] + *filled, room - *filled, &line) == NORM_DONE;
         *filled += line;
@@ -56,20 +56,19 @@ static bool hand_over(struct worker *w) {
     struct kept *kept = &w->kept;
     int after = (kept->current + 1) % BLOCKS;
     struct block *next = &kept->blocks[after];
-    if (atomic_load_explicit(&next->full, memory_order_acquire)) return false;
+    if (atomic_load(&next->full)) return false;
     next->frames = 0;
     next->cause = kept->cause;
     memset(next->filled, 0, sizeof next->filled);
-    atomic_store_explicit(&kept->blocks[kept->current].full, true, memory_order_release);
+    atomic_store(&kept->blocks[kept->current].full, true);
     kept->current = after;
     kept->cause = 0;
     return true;
 }
 
-void keep(struct worker *w, const struct norm_arrival *when, const uint8_t *frame, size_t size,
-          const struct norm_answer *answer) {
+void keep(struct worker *w, const struct taken *read) {
     for (int tries = 0; tries < 2; tries++) {
-        if (room == 0 || (w->kept.cause == 0 && add(w, when, frame, size, answer))) return;
+        if (room == 0 || (w->kept.cause == 0 && add(w, read))) return;
         if (!hand_over(w)) break;
     }
     ADD(w->kept.lost, 1);
@@ -128,7 +127,8 @@ static const char *open_file(struct worker *w, int i, const char *mark) {
     snprintf(aside, sizeof aside, "%s-%s%s", file->path, time_word(), mark);
     bool older = alone && lstat(file->path, &about) == 0 && S_ISREG(about.st_mode) && about.st_size > 0;
     if (older && rename(file->path, aside) < 0) return strerror(errno);
-    file->fd = open(file->path, O_WRONLY | O_CREAT | O_CLOEXEC | O_NOFOLLOW | O_NONBLOCK | (alone ? O_TRUNC : O_EXCL), 0600);
+    int flags = O_WRONLY | O_CREAT | O_CLOEXEC | O_NOFOLLOW | O_NONBLOCK | (alone ? O_TRUNC : O_EXCL);
+    file->fd = open(file->path, flags, 0600);
     if (file->fd < 0) return strerror(errno);
     if (fstat(file->fd, &about) < 0 || !S_ISREG(about.st_mode)) return "it is no regular file";
     size_t head = capture ? CAPTURE_HEAD : w->kept.part == 1 ? w->first_size : 0;
@@ -185,12 +185,11 @@ static void write_block(struct worker *w, const struct block *block) {
     for (int i = 0; i < KEPT; i++) due = due || (options.rotate > 0 && kept->files[i].size >= options.rotate);
     kept->owed |= block->cause | (kept->open ? 0 : GAP);
     if ((due || kept->owed) && now >= kept->retry) begin_files(w);
-    for (int i = 0; i < KEPT && kept->open; i++) {
-        int from = i == REPORT_FILE ? KEPT_REPORT : i;
-        if (kept->files[i].fd >= 0 && !write_whole(kept->files[i].fd, block->octets[from], block->filled[from]))
+    static const int from[KEPT] = {KEPT_IN, KEPT_OUT, KEPT_REPORT, KEPT_REPORT};
+    for (int i = 0; i < KEPT && kept->open; i++)
+        if (kept->files[i].fd >= 0 && !write_whole(kept->files[i].fd, block->octets[from[i]], block->filled[from[i]]))
             fail_files(kept, i, strerror(errno));
-    }
-    for (int i = 0; i < KEPT && kept->open; i++) kept->files[i].size += block->filled[i == REPORT_FILE ? KEPT_REPORT : i];
+    for (int i = 0; i < KEPT && kept->open; i++) kept->files[i].size += block->filled[from[i]];
     if (!kept->open) ADD(kept->unwritten, block->frames);
 }
 
@@ -199,10 +198,10 @@ void *write_kept(void *unused) {
     for (bool last = false; !last && room > 0;) {
         last = atomic_load(&ended) == options.jobs;
         for (struct worker *w = workers; w < workers + options.jobs; w++) {
-            struct block *block;
-            while (block = &w->kept.blocks[w->kept.writing], atomic_load_explicit(&block->full, memory_order_acquire)) {
+            struct block *block = &w->kept.blocks[w->kept.writing];
+            for (; atomic_load(&block->full); block = &w->kept.blocks[w->kept.writing]) {
                 write_block(w, block);
-                atomic_store_explicit(&block->full, false, memory_order_release);
+                atomic_store(&block->full, false);
                 w->kept.writing = (w->kept.writing + 1) % BLOCKS;
             }
             if (last) write_block(w, block);
@@ -223,7 +222,7 @@ void open_kept(void) {
         for (int i = 0; i < KEPT; i++) {
             w->kept.files[i].fd = -1;
             for (int b = 0; b < BLOCKS && i < REPORT_FILE; b++)
-                if ((w->kept.blocks[b].octets[i] = calloc(1, room + LAST_LINE)) == NULL) fail(1, "no memory for files");
+                if (!(w->kept.blocks[b].octets[i] = calloc(1, room + LAST_LINE))) fail(1, "no memory for files");
         }
         memcpy(w->kept.run, workers[0].kept.run, sizeof w->kept.run);
         begin_files(w);

@@ -16,7 +16,7 @@ enum { RINGS = 64 << 20, LEAST_RING = 4 << 20, BLOCK = 1 << 17, SLOT_HEAD = 80, 
 /* Of a fanout group, which Debian's header lacks: what this machine sends is not received. */
 enum { IGNORE_OUTGOING = 0x4000 };
 
-static struct sock_filter nothing[] = {BPF_STMT(BPF_RET | BPF_K, 0)};
+static const struct sock_fprog nothing = {1, (struct sock_filter[]){BPF_STMT(BPF_RET | BPF_K, 0)}};
 
 static struct side *side_of(unsigned index) {
     return sides[0].index == index ? &sides[0] : sides[1].index == index ? &sides[1] : NULL;
@@ -69,16 +69,15 @@ static void ask(uint16_t type) {
     close(channel);
 }
 
-static void set(const struct side *side, int socket, int option, const void *value, size_t size) {
-    if (setsockopt(socket, SOL_PACKET, option, value, (socklen_t)size) < 0)
-        fail(2, "%s: option %d of its socket: %s", side->name, option, strerror(errno));
+static void set(int socket, int level, int option, const void *value, size_t size) {
+    if (setsockopt(socket, level, option, value, (socklen_t)size) < 0)
+        fail(2, "option %d of a socket: %s", option, strerror(errno));
 }
 
 /*
- * Writes a program of classic BPF that returns the number of the worker of a frame: its inside
+ * Writes a program of a fanout group that returns the number of the worker of a frame: its inside
  * address modulo the number of workers; 0 for a frame without one, or with a tag. With a worker it
- * is the filter of that worker's socket, which takes no frame of another one: the members of a
- * fanout group are numbered anew when a link goes down and up. A filter sees the Ethernet header.
+ * is the filter of its socket, since the group numbers its members anew when a link was down.
  */
 static struct sock_fprog spread(struct sock_filter *code, int k, const struct worker *only) {
     const struct sock_filter lines[] = {
@@ -109,23 +108,20 @@ static void join(int k) {
     socklen_t size = sizeof group;
     for (uint64_t j = 0; j < options.jobs; j++) {
         int socket = workers[j].ports[k].socket;
-        set(&sides[k], socket, PACKET_FANOUT, &group, sizeof group);
+        set(socket, SOL_PACKET, PACKET_FANOUT, &group, sizeof group);
         if (j > 0) continue;
-        set(&sides[k], socket, PACKET_FANOUT_DATA, &program, sizeof program);
+        set(socket, SOL_PACKET, PACKET_FANOUT_DATA, &program, sizeof program);
         if (getsockopt(socket, SOL_PACKET, PACKET_FANOUT, &group, &size) < 0) fail(2, "fanout: %s", strerror(errno));
     }
-}
-
-static void attach(int socket, struct sock_fprog program) {
-    if (setsockopt(socket, SOL_SOCKET, SO_ATTACH_FILTER, &program, sizeof program) < 0)
-        end_bridge(1, "a filter of frames: %s", strerror(errno));
 }
 
 void set_filters(bool receive) {
     struct sock_filter code[16];
     for (uint64_t j = 0; j < options.jobs; j++)
-        for (int k = 0; k < SIDES; k++)
-            attach(workers[j].ports[k].socket, receive ? spread(code, k, &workers[j]) : (struct sock_fprog){1, nothing});
+        for (int k = 0; k < SIDES; k++) {
+            struct sock_fprog program = receive ? spread(code, k, &workers[j]) : nothing;
+            set(workers[j].ports[k].socket, SOL_SOCKET, SO_ATTACH_FILTER, &program, sizeof program);
+        }
 }
 
 /* Opens a worker's socket on an interface. It receives nothing before the filters are set. */
@@ -140,10 +136,10 @@ static void open_port(struct port *port, const struct side *side) {
     struct tpacket_req ring = {BLOCK, (unsigned)(share / BLOCK), (unsigned)port->slot, port->slots};
     port->socket = socket(AF_PACKET, SOCK_RAW | SOCK_CLOEXEC, 0);
     if (port->socket < 0) fail(2, "%s: %s: CAP_NET_RAW is needed", side->name, strerror(errno));
-    attach(port->socket, (struct sock_fprog){1, nothing});
-    set(side, port->socket, PACKET_VERSION, &version, sizeof version);
-    set(side, port->socket, PACKET_RX_RING, &ring, sizeof ring);
-    set(side, port->socket, PACKET_QDISC_BYPASS, &one, sizeof one);
+    set(port->socket, SOL_SOCKET, SO_ATTACH_FILTER, &nothing, sizeof nothing);
+    set(port->socket, SOL_PACKET, PACKET_VERSION, &version, sizeof version);
+    set(port->socket, SOL_PACKET, PACKET_RX_RING, &ring, sizeof ring);
+    set(port->socket, SOL_PACKET, PACKET_QDISC_BYPASS, &one, sizeof one);
     /* A kernel before 4.20 lacks the option: the worker skips what this machine sends. */
     setsockopt(port->socket, SOL_PACKET, PACKET_IGNORE_OUTGOING, &one, sizeof one);
     if (setsockopt(port->socket, SOL_SOCKET, SO_SNDBUFFORCE, &size, sizeof size) < 0)
@@ -151,7 +147,7 @@ static void open_port(struct port *port, const struct side *side) {
     port->ring = mmap(NULL, share, PROT_READ | PROT_WRITE, MAP_SHARED, port->socket, 0);
     if (port->ring == MAP_FAILED || bind(port->socket, (struct sockaddr *)&link, sizeof link) < 0)
         fail(2, "%s: %s", side->name, strerror(errno));
-    set(side, port->socket, PACKET_ADD_MEMBERSHIP, &all, sizeof all);
+    set(port->socket, SOL_PACKET, PACKET_ADD_MEMBERSHIP, &all, sizeof all);
 }
 
 bool link_exists(const struct side *side) {
@@ -196,12 +192,13 @@ static int setting(const char *family, const char *name, const char *what) {
 
 /* Returns whether the card merges frames that it receives. */
 static bool has_offload(int socket, const char *name) {
-    struct ethtool_value merges = {ETHTOOL_GGRO, 0}, flags = {ETHTOOL_GFLAGS, 0};
-    struct ifreq request = {.ifr_data = (void *)&merges}, other = {.ifr_data = (void *)&flags};
+    struct ethtool_value gro = {ETHTOOL_GGRO, 0}, flags = {ETHTOOL_GFLAGS, 0};
+    struct ifreq request = {.ifr_data = (void *)&gro};
     snprintf(request.ifr_name, sizeof request.ifr_name, "%s", name);
-    snprintf(other.ifr_name, sizeof other.ifr_name, "%s", name);
-    return (ioctl(socket, SIOCETHTOOL, &request) == 0 && merges.data)
-           || (ioctl(socket, SIOCETHTOOL, &other) == 0 && flags.data & ETH_FLAG_LRO);
+    ioctl(socket, SIOCETHTOOL, &request);
+    request.ifr_data = (void *)&flags;
+    ioctl(socket, SIOCETHTOOL, &request);
+    return gro.data || flags.data & ETH_FLAG_LRO;
 }
 
 /* Warns of what need not be wrong, once nothing is refused any more. */

@@ -44,8 +44,7 @@ uint64_t now_of(clockid_t clock) {
 void raise_event(void) { kill(getpid(), SIGUSR2); }
 
 bool is_first_end(int how) {
-    int none = -1;
-    bool first = atomic_compare_exchange_strong(&status, &none, how);
+    bool first = atomic_compare_exchange_strong(&status, &(int){-1}, how);
     raise_event();
     return first;
 }
@@ -76,11 +75,12 @@ static void drop_privileges(void) {
         const struct passwd *user = getpwnam(name);
         if (!user) fail(2, "--user %s: no such user", name);
         if (user->pw_uid == 0) fail(2, "--user %s: norm does not run as root", name);
+        uid_t id = user->pw_uid;
         gid_t group = user->pw_gid;
-        if (geteuid() == 0 && (initgroups(name, group) < 0 || setresgid(group, group, group) < 0
-                               || setresuid(user->pw_uid, user->pw_uid, user->pw_uid) < 0))
+        if (geteuid() != 0 && geteuid() != id) fail(2, "--user %s: only root changes its user", name);
+        if (geteuid() == 0
+            && (initgroups(name, group) < 0 || setresgid(group, group, group) < 0 || setresuid(id, id, id) < 0))
             fail(2, "--user %s: %s", name, strerror(errno));
-        if (geteuid() != user->pw_uid) fail(2, "--user %s: only root changes its user", name);
     }
     prctl(PR_CAP_AMBIENT, PR_CAP_AMBIENT_CLEAR_ALL, 0, 0, 0);
     if (prctl(PR_SET_NO_NEW_PRIVS, 1, 0, 0, 0) < 0 || prctl(PR_SET_DUMPABLE, 0, 0, 0, 0) < 0
@@ -100,21 +100,22 @@ static void read_kernel(void) {
 }
 
 /* Returns the microseconds that this share of the frames needed at most. */
-static uint64_t percentile(const uint64_t *waits, unsigned percent) {
+static uintmax_t percentile(const uint64_t *waits, unsigned percent) {
     uint64_t all = 0, so_far = 0;
     for (unsigned i = 0; i < BUCKETS; i++) all += waits[i];
     for (unsigned i = 0; i < BUCKETS && all > 0; i++) {
         unsigned power = i < 32 ? 0 : i / 16 - 1;
         so_far += waits[i];
-        if (so_far * 100 >= all * percent) return (uint64_t)(i - power * 16 + 1) << power;
+        if (so_far * 100 >= all * percent) return (uintmax_t)(i - power * 16 + 1) << power;
     }
     return 0;
 }
 
 /* Returns the sum over all workers of a counter, which is named by that of the first one. */
-static uint64_t sum(const count *first) {
+static uintmax_t sum(const count *first) {
     uint64_t all = 0;
-    for (uint64_t j = 0; j < options.jobs; j++) all += GET(*(const count *)((const char *)first + j * sizeof *workers));
+    const char *at = (const char *)first;
+    for (uint64_t j = 0; j < options.jobs; j++, at += sizeof *workers) all += GET(*(const count *)(const void *)at);
     return all;
 }
 
@@ -136,16 +137,14 @@ static void print_counts(bool since_start) {
         if (!since_start) before[i] = all;
     }
     for (const struct port *port = w->ports; port < w->ports + SIDES; port++) {
-        fprintf(line, "%s: received %ju", names[port - w->ports], (uintmax_t)sum(&port->received));
-        for (int i = 0; i < FATES; i++) fprintf(line, " %s %ju", fates[i], (uintmax_t)sum(&port->fates[i]));
-        fprintf(line, " sent %ju failed %ju kernel %ju; ", (uintmax_t)sum(&port->sent), (uintmax_t)sum(&port->failed),
-                (uintmax_t)sum(&port->kernel));
+        fprintf(line, "%s: received %ju", names[port - w->ports], sum(&port->received));
+        for (int i = 0; i < FATES; i++) fprintf(line, " %s %ju", fates[i], sum(&port->fates[i]));
+        fprintf(line, " sent %ju failed %ju kernel %ju; ", sum(&port->sent), sum(&port->failed), sum(&port->kernel));
     }
-    fprintf(line, "norm: wrote %ju", (uintmax_t)sum(&w->wrote));
-    for (int i = 0; i < VERDICTS; i++) fprintf(line, " %s %ju", verdicts[i], (uintmax_t)sum(&w->verdicts[i]));
-    fprintf(line, "; kept: lost %ju; microseconds: 50%% %ju 99%% %ju",
-            (uintmax_t)(sum(&w->kept.lost) + sum(&w->kept.unwritten)), (uintmax_t)percentile(waits, 50),
-            (uintmax_t)percentile(waits, 99));
+    fprintf(line, "norm: wrote %ju", sum(&w->wrote));
+    for (int i = 0; i < VERDICTS; i++) fprintf(line, " %s %ju", verdicts[i], sum(&w->verdicts[i]));
+    fprintf(line, "; kept: lost %ju; microseconds: 50%% %ju 99%% %ju", sum(&w->kept.lost) + sum(&w->kept.unwritten),
+            percentile(waits, 50), percentile(waits, 99));
     fclose(line);
     say("%s", text);
     free(text);
@@ -170,22 +169,22 @@ static void tick(void) {
     static bool warned[SIDES];
     uint64_t now = now_of(CLOCK_MONOTONIC) / 1000000000;
     if (now == last) return;
+    if (last == 0) printed = now;
     last = now;
-    if (printed == 0) printed = now;
     read_kernel();
     for (int k = 0; k < SIDES; k++) {
         if (!link_exists(&sides[k])) end_bridge(1, "%s is gone", sides[k].name);
         if (warned[k] || sum(&workers[0].ports[k].unlike) == 0) continue;
         warned[k] = true;
-        say("warning: frames of %s were merged, or lack checksums: ethtool -K DEV gro off lro off gso off tso off tx off, "
-            "here and at the senders", sides[k].name);
+        say("warning: frames of %s were merged or lack checksums, here or at the senders: "
+            "ethtool -K DEV gro off lro off gso off tso off tx off", sides[k].name);
     }
     if (options.every == 0 || now < printed + options.every) return;
     printed += options.every;
     print_counts(false);
 }
 
-/* Waits until so many of the other threads have come so far. If the bridge is to end, they receive nothing any more. */
+/* Waits until so many of the other threads are so far. If the bridge is to end, they receive nothing any more. */
 static void wait_for(const atomic_uint *threads, uint64_t wanted) {
     while (atomic_load(threads) < wanted) {
         wait_once();

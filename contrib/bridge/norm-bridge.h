@@ -41,6 +41,14 @@ struct port {
     count received, fates[FATES], unlike, sent, failed, kernel;
 };
 
+/* A frame that was read, and the engine's answer to it. */
+struct taken {
+    struct norm_arrival arrival;
+    const uint8_t *octets;
+    size_t size;
+    struct norm_answer answer;
+};
+
 /* What a worker has kept of frames: octets for each file, and why new files begin with them. */
 struct block {
     atomic_bool full;
@@ -50,7 +58,7 @@ struct block {
     uint8_t *octets[KEPT];
 };
 
-/* The worker fills the current block. The thread that writes has those that are full, and what follows `unwritten`. */
+/* The worker fills the current block; the thread that writes has those that are full, and the files. */
 struct kept {
     struct block blocks[BLOCKS];
     int current, writing;
@@ -95,7 +103,7 @@ extern struct side {
 } sides[SIDES];
 extern struct worker workers[JOBS];
 
-/* norm-bridge.c: `fail` ends the program; `end_bridge` has the main thread end it, and prints the first reason alone. */
+/* norm-bridge.c: `fail` ends the program; `end_bridge` has the main thread end it, and prints the first reason. */
 #define fail(status, ...) (say(__VA_ARGS__), exit(status))
 #define end_bridge(status, ...) (is_first_end(status) ? say(__VA_ARGS__) : (void)0)
 enum { STARTING, PASSING, STOPPING };
@@ -122,9 +130,8 @@ bool link_exists(const struct side *side);
 /* worker.c */
 void *work(void *worker);
 
-/* keep.c: of a frame that was judged; at the end of a pass, which returns false if it is to be tried again; of an engine's end. */
-void keep(struct worker *w, const struct norm_arrival *when, const uint8_t *frame, size_t size,
-          const struct norm_answer *answer);
+/* keep.c: a frame that was judged; the end of a pass, which returns whether nothing is left; the end of an engine. */
+void keep(struct worker *w, const struct taken *read);
 bool keep_pass(struct worker *w);
 void keep_end(struct worker *w, bool renewed);
 void open_kept(void);

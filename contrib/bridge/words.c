@@ -6,7 +6,6 @@
 #include <sys/random.h>
 
 enum { LEAST_MTU = 576, GREATEST_MTU = 65535 };
-
 static const char help[] =
     "Passes the IPv4 frames of two interfaces through norm, and ARP past it. Nothing else crosses.\n"
     "\n"
@@ -27,9 +26,8 @@ static const char help[] =
     "  --help, -h       print this text\n"
     "  --version        print the version\n"
     "\n"
-    "It runs in the foreground. SIGINT and SIGTERM end it with 0 after the frames that it has are\n"
-    "sent; SIGUSR1 prints the counts. Status: 1 if an engine, an interface or a file failed, 2 if\n"
-    "words are wrong. When it ends, nothing passes any more. norm-bridge(8) has the rest.\n";
+    "SIGINT and SIGTERM end it with 0, and then nothing passes any more; SIGUSR1 prints the counts.\n"
+    "Status: 1 if an engine, an interface or a file failed, 2 if words are wrong. norm-bridge(8) has the rest.\n";
 
 static struct option {
     const char *name;
@@ -49,12 +47,9 @@ static struct option {
 };
 
 /* Tables that the engines share out: the default and the least number that norm takes. */
-static const struct shared {
-    const char *option;
-    uint64_t usual, least;
-} tables[] = {
-    {"--flows", 4096, 1}, {"--cells", 65536, 1}, {"--frags", 256, 1}, {"--frag-cells", 4096, 256},
-};
+enum { TABLES = 4 };
+static const char *const tables[TABLES] = {"--flows", "--cells", "--frags", "--frag-cells"};
+static const uint64_t usual[TABLES] = {4096, 65536, 256, 4096}, least[TABLES] = {1, 1, 1, 256};
 
 static char **prefixes, **norm_words;
 static int prefix_count, norm_count;
@@ -65,8 +60,7 @@ size_t engine_length;
 static bool read_number(const struct option *option, const char *word) {
     size_t digits = strspn(word, "0123456789");
     const char *unit = option->units && word[digits] ? strchr("KMG", word[digits]) : NULL;
-    if (digits == 0 || digits > 15) return false;
-    uint64_t value = strtoull(word, NULL, 10);
+    uint64_t value = digits > 0 && digits <= 15 ? strtoull(word, NULL, 10) : 0;
     if (unit && value < 1 << 30) value <<= *unit == 'K' ? 10 : *unit == 'M' ? 20 : 30, digits++;
     *option->number = value;
     return word[digits] == 0 && value >= option->least && value <= option->most;
@@ -77,7 +71,7 @@ static int take_option(char **words, int left) {
     size_t length = strcspn(words[0], "=");
     const char *value = words[0][length] ? words[0] + length + 1 : left > 1 ? words[1] : "";
     struct option *option = table, *past = table + sizeof table / sizeof *table;
-    while (option < past && (strlen(option->name) != length || strncmp(option->name, words[0], length) != 0)) option++;
+    while (option < past && (strncmp(option->name, words[0], length) != 0 || option->name[length])) option++;
     if (option == past) fail(2, "%s: no such option; norm-bridge --help lists them", words[0]);
     if (option->given) fail(2, "%s is given twice", option->name);
     if (option->flag && words[0][length]) fail(2, "%s takes no value", option->name);
@@ -108,7 +102,7 @@ void read_words(int count, char **words) {
     for (int i = 0; i < norm_count; i++) {
         if (is_option(norm_words[i], "--both") || is_option(norm_words[i], "--inside"))
             fail(2, "%s is not for a bridge: the interfaces and prefixes give the sides", norm_words[i]);
-        if (!*norm_words[i] || strpbrk(norm_words[i], " \t\n\v\f\r")) fail(2, "a word after -- is empty or has a space");
+        if (strpbrk(norm_words[i], " \t\n\v\f\r") || !*norm_words[i]) fail(2, "a word after -- has a space, or nothing");
     }
     while (at < end && words[at][0] == '-') at += take_option(words + at, end - at);
     if (end - at < 3) fail(2, "usage: norm-bridge [OPTION..] OUTSIDE INSIDE PREFIX.. [-- NORM-OPTION..]");
@@ -130,22 +124,13 @@ static const char *norm_value(const char *option) {
     return NULL;
 }
 
-static bool is_shared(const char *word) {
-    for (size_t t = 0; t < sizeof tables / sizeof *tables && options.jobs > 1; t++)
-        if (is_option(word, tables[t].option)) return true;
-    return false;
-}
-
-/* Adds the tables of one of several engines: its share, and at least what norm takes. */
-static void add_shares(FILE *text) {
-    for (size_t t = 0; t < sizeof tables / sizeof *tables && options.jobs > 1; t++) {
-        const char *given = norm_value(tables[t].option);
-        uint64_t all = given ? strtoull(given, NULL, 10) : tables[t].usual, share = all / options.jobs;
-        /* A number that norm refuses is left for it to refuse. */
-        if (given && (strspn(given, "0123456789") != strlen(given) || all < tables[t].least)) share = 0;
-        else if (share < tables[t].least) share = tables[t].least;
-        fprintf(text, " %s=%ju", tables[t].option, (uintmax_t)share);
-    }
+/* Adds an engine's share of a table, and at least what norm takes. What norm refuses is left for it to refuse. */
+static void add_share(FILE *text, int t) {
+    const char *given = norm_value(tables[t]);
+    uint64_t all = given ? strtoull(given, NULL, 10) : usual[t], share = all / options.jobs;
+    if (given && (strspn(given, "0123456789") != strlen(given) || all < least[t])) share = 0;
+    else if (share < least[t]) share = least[t];
+    fprintf(text, " %s=%ju", tables[t], (uintmax_t)share);
 }
 
 /* Makes the words of the engines, which are the same for all. The interfaces are open. */
@@ -159,10 +144,12 @@ void make_engine_words(void) {
     if (given && strtoull(given, NULL, 10) > mtu) fail(2, "--mtu %s: the interfaces have %u", given, mtu);
     fputs("run", text);
     for (int i = 0; i < norm_count; i++) {
-        if (!is_shared(norm_words[i])) fprintf(text, " %s", norm_words[i]);
+        bool shared = false;
+        for (int t = 0; t < TABLES && options.jobs > 1; t++) shared = shared || is_option(norm_words[i], tables[t]);
+        if (!shared) fprintf(text, " %s", norm_words[i]);
         else if (!strchr(norm_words[i], '=')) i++;
     }
-    add_shares(text);
+    for (int t = 0; t < TABLES && options.jobs > 1; t++) add_share(text, t);
     if (!given) fprintf(text, " --mtu=%u", mtu < GREATEST_MTU ? mtu : GREATEST_MTU);
     if (!norm_value("--seed")) {
         if (getrandom(&seed, sizeof seed, 0) != sizeof seed) fail(1, "getrandom: %s", strerror(errno));

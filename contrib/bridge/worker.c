@@ -54,65 +54,62 @@ static bool open_engine(struct worker *w) {
 }
 
 /* Answers as if norm passed each frame that it could judge. */
-static void pass_by(const struct norm_arrival *arrival, size_t size, struct norm_answer *answer) {
-    uint32_t fate = arrival->tag ? NORM_UNJUDGED : arrival->original > size ? NORM_TRUNCATED : NORM_JUDGED;
+static void pass_by(struct taken *read) {
+    const struct norm_arrival *arrival = &read->arrival;
+    uint32_t fate = arrival->tag ? NORM_UNJUDGED : arrival->original > read->size ? NORM_TRUNCATED : NORM_JUDGED;
     bool passes = fate == NORM_JUDGED;
-    *answer = (struct norm_answer){.fate = fate, .frames = passes, .port = !arrival->port, .as_read = passes};
+    read->answer = (struct norm_answer){.fate = fate, .frames = passes, .port = !arrival->port, .as_read = passes};
 }
 
 /* Judges a frame. Returns false if the bridge ends. An engine takes 2^32 - 1 records: a new one follows it. */
-static bool judge(struct worker *w, const struct norm_arrival *arrival, const uint8_t *frame, size_t size,
-                  struct norm_answer *answer) {
-    uint32_t result = norm_step(&w->engine, arrival, frame, size, answer);
+static bool judge(struct worker *w, struct taken *read) {
+    uint32_t result = norm_step(&w->engine, &read->arrival, read->octets, read->size, &read->answer);
     if (result == NORM_FULL) {
         uint64_t began = now_of(CLOCK_MONOTONIC);
         keep_end(w, true);
         if (!open_engine(w)) return false;
-        say("engine %d is full: a new one was opened in %ju microseconds", w->number,
-            (uintmax_t)((now_of(CLOCK_MONOTONIC) - began) / 1000));
-        result = norm_step(&w->engine, arrival, frame, size, answer);
+        uint64_t passed = now_of(CLOCK_MONOTONIC) - began;
+        say("engine %d is full: a new one was opened in %ju microseconds", w->number, (uintmax_t)passed / 1000);
+        result = norm_step(&w->engine, &read->arrival, read->octets, read->size, &read->answer);
     }
     if (result != NORM_DONE) end_bridge(1, "engine %d answers %u to a frame", w->number, result);
     return result == NORM_DONE;
 }
 
-/* Has the frame of this index leave that is written for one that was read, or that one itself. */
-static void leave(struct worker *w, const struct norm_answer *answer, uint32_t index, const uint8_t *read, size_t size,
-                  uint64_t time) {
-    struct norm_frame frame = {size, answer->port};
-    if (!answer->as_read) {
+/* Has a frame leave: the one that was read, or the one of this index that is written for it. */
+static void leave(struct worker *w, const struct taken *read, uint32_t index) {
+    struct norm_frame frame = {read->size, read->answer.port};
+    const uint8_t *octets = read->octets;
+    if (!read->answer.as_read) {
         if (w->copied + LONGEST > COPIES) flush_all(w);
-        read = w->copies + w->copied;
+        octets = w->copies + w->copied;
         norm_frame(&w->engine, index, w->copies + w->copied, LONGEST, &frame);
         w->copied += frame.size;
     }
     struct port *to = &w->ports[frame.port == NORM_INSIDE];
     if (to->filled == BATCH) flush(w, to);
-    to->parts[to->filled] = (struct iovec){(void *)read, frame.size};
+    to->parts[to->filled] = (struct iovec){(void *)octets, frame.size};
     to->heads[to->filled].msg_hdr = (struct msghdr){.msg_iov = &to->parts[to->filled], .msg_iovlen = 1};
-    to->times[to->filled++] = time;
+    to->times[to->filled++] = read->arrival.seconds * UINT64_C(1000000000) + read->arrival.fraction;
 }
 
 /* Takes a frame from a ring. */
 static void take(struct worker *w, uint32_t k, const struct tpacket2_hdr *slot) {
     struct port *from = &w->ports[k];
-    const uint8_t *frame = (const uint8_t *)slot + slot->tp_mac;
-    size_t size = slot->tp_snaplen;
-    uint64_t time = slot->tp_sec * UINT64_C(1000000000) + slot->tp_nsec;
     uint32_t tag = slot->tp_status & TP_STATUS_VLAN_VALID ? 65536 + slot->tp_vlan_tci : 0;
-    const struct norm_arrival arrival = {k, tag, slot->tp_sec, slot->tp_nsec, slot->tp_len};
-    struct norm_answer answer;
+    struct taken read = {.arrival = {k, tag, slot->tp_sec, slot->tp_nsec, slot->tp_len},
+                         .octets = (const uint8_t *)slot + slot->tp_mac, .size = slot->tp_snaplen};
     ADD(from->received, 1);
-    if (slot->tp_status & TP_STATUS_CSUMNOTREADY || slot->tp_len > size) ADD(from->unlike, 1);
-    if (options.without_norm) pass_by(&arrival, size, &answer);
-    else w->broken = !judge(w, &arrival, frame, size, &answer);
+    if (slot->tp_status & TP_STATUS_CSUMNOTREADY || slot->tp_len > slot->tp_snaplen) ADD(from->unlike, 1);
+    if (options.without_norm) pass_by(&read);
+    else w->broken = !judge(w, &read);
     if (w->broken) return;
-    ADD(from->fates[answer.fate], 1);
-    for (uint32_t i = 0; i < answer.frames; i++) leave(w, &answer, i, frame, size, time);
-    if (answer.fate != NORM_JUDGED) return;
-    ADD(w->wrote, answer.frames);
-    if (answer.records > 0) ADD(w->verdicts[answer.verdict], answer.records);
-    keep(w, &arrival, frame, size, &answer);
+    ADD(from->fates[read.answer.fate], 1);
+    for (uint32_t i = 0; i < read.answer.frames; i++) leave(w, &read, i);
+    if (read.answer.fate != NORM_JUDGED) return;
+    ADD(w->wrote, read.answer.frames);
+    if (read.answer.records > 0) ADD(w->verdicts[read.answer.verdict], read.answer.records);
+    keep(w, &read);
 }
 
 static struct tpacket2_hdr *slot_at(const struct port *port, unsigned number) {
@@ -138,13 +135,14 @@ static bool pass(struct worker *w, uint32_t k) {
 
 /* Waits until a ring has something, the bridge ends, or so many milliseconds have passed. */
 static void wait_for_frames(const struct worker *w, int milliseconds) {
-    struct pollfd waits[] = {{w->ports[0].socket, POLLIN, 0}, {w->ports[1].socket, POLLIN, 0}, {stop_event, POLLIN, 0}};
+    int outside = w->ports[NORM_OUTSIDE].socket, inside = w->ports[NORM_INSIDE].socket;
+    struct pollfd waits[] = {{outside, POLLIN, 0}, {inside, POLLIN, 0}, {stop_event, POLLIN, 0}};
     poll(waits, SIDES + 1, milliseconds);
     for (int k = 0; k < SIDES; k++) {
         int error;
         socklen_t size = sizeof error;
         /* A link that went down is an error until it is read. */
-        if (waits[k].revents & POLLERR) getsockopt(w->ports[k].socket, SOL_SOCKET, SO_ERROR, &error, &size);
+        if (waits[k].revents & POLLERR) getsockopt(waits[k].fd, SOL_SOCKET, SO_ERROR, &error, &size);
     }
 }
 
