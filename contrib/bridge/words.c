@@ -102,7 +102,8 @@ void read_words(int count, char **words) {
     for (int i = 0; i < norm_count; i++) {
         if (is_option(norm_words[i], "--both") || is_option(norm_words[i], "--inside"))
             fail(2, "%s is not for a bridge: the interfaces and prefixes give the sides", norm_words[i]);
-        if (strpbrk(norm_words[i], " \t\n\v\f\r") || !*norm_words[i]) fail(2, "a word after -- has a space, or nothing");
+        if (!*norm_words[i] || strpbrk(norm_words[i], " \t\n\v\f\r"))
+            fail(2, "a word after -- is empty or has a space");
     }
     while (at < end && words[at][0] == '-') at += take_option(words + at, end - at);
     if (end - at < 3) fail(2, "usage: norm-bridge [OPTION..] OUTSIDE INSIDE PREFIX.. [-- NORM-OPTION..]");
