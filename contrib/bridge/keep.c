@@ -84,11 +84,11 @@ bool keep_pass(struct worker *w) {
 }
 
 void keep_end(struct worker *w, bool renewed) {
-    if (room == 0 || (w->kept.cause && !hand_over(w))) return;
+    bool lost = w->kept.cause && !hand_over(w);
     struct block *block = &w->kept.blocks[w->kept.current];
-    size_t size = 0;
-    norm_last(&w->engine, block->octets[KEPT_REPORT] + block->filled[KEPT_REPORT], LAST_LINE, &size);
-    block->filled[KEPT_REPORT] += size;
+    size_t *filled = &block->filled[KEPT_REPORT], size = 0;
+    if (room > 0 && !lost) norm_last(&w->engine, block->octets[KEPT_REPORT] + *filled, LAST_LINE, &size);
+    *filled += size;
     if (renewed) w->kept.cause |= RENEWED;
 }
 
@@ -184,6 +184,7 @@ static void write_block(struct worker *w, const struct block *block) {
     bool due = options.keep && now >= kept->since + HOUR;
     for (int i = 0; i < KEPT; i++) due = due || (options.rotate > 0 && kept->files[i].size >= options.rotate);
     kept->owed |= block->cause | (kept->open ? 0 : GAP);
+    if (block->frames == 0 && block->filled[KEPT_REPORT] == 0) return;
     if ((due || kept->owed) && now >= kept->retry) begin_files(w);
     static const int from[KEPT] = {KEPT_IN, KEPT_OUT, KEPT_REPORT, KEPT_REPORT};
     for (int i = 0; i < KEPT && kept->open; i++)

@@ -83,7 +83,11 @@ static void leave(struct worker *w, const struct taken *read, uint32_t index) {
     if (!read->answer.as_read) {
         if (w->copied + LONGEST > COPIES) flush_all(w);
         octets = w->copies + w->copied;
-        norm_frame(&w->engine, index, w->copies + w->copied, LONGEST, &frame);
+        w->broken = norm_frame(&w->engine, index, w->copies + w->copied, LONGEST, &frame) != NORM_DONE;
+        if (w->broken) {
+            end_bridge(1, "engine %d lacks a frame that it has written", w->number);
+            return;
+        }
         w->copied += frame.size;
     }
     struct port *to = &w->ports[frame.port == NORM_INSIDE];
@@ -105,7 +109,7 @@ static void take(struct worker *w, uint32_t k, const struct tpacket2_hdr *slot) 
     else w->broken = !judge(w, &read);
     if (w->broken) return;
     ADD(from->fates[read.answer.fate], 1);
-    for (uint32_t i = 0; i < read.answer.frames; i++) leave(w, &read, i);
+    for (uint32_t i = 0; i < read.answer.frames && !w->broken; i++) leave(w, &read, i);
     if (read.answer.fate != NORM_JUDGED) return;
     ADD(w->wrote, read.answer.frames);
     if (read.answer.records > 0) ADD(w->verdicts[read.answer.verdict], read.answer.records);
