@@ -1,164 +1,232 @@
 /*
- * Files: norm's report, and IN, OUT and report of each run. The threads that pass frames copy whole
- * records or lines into a ring, and another thread writes them, so that no disk delays a frame.
+ * Files: IN, OUT and report of each run in a folder, and the report alone. A worker copies what is
+ * kept into a block, and one thread writes the blocks that are full, so that no disk delays a frame.
  */
 #include "norm-bridge.h"
-#include <errno.h>
 #include <fcntl.h>
-#include <poll.h>
-#include <stdio.h>
-#include <stdlib.h>
-#include <string.h>
 #include <sys/stat.h>
-#include <time.h>
-#include <unistd.h>
 
-enum { KEPT_RING = 16 << 20, KEPT_SECONDS = 3600, NAP_MILLISECONDS = 20, MODE = 0640 };
+enum { ROOM = 16 << 20, LEAST_ROOM = 1 << 20, NAP_MILLISECONDS = 5, HOUR = 3600, RETRY_SECONDS = 10 };
+enum { CAPTURE_HEAD = 24, RECORD_HEAD = 16, LAST_LINE = 64 };
+/* Why new files begin with a block: frames before it are lost, or it is the first one of a new engine. */
+enum { GAP = 1, RENEWED = 2 };
 
-static pthread_mutex_t files = PTHREAD_MUTEX_INITIALIZER;
-static char run_name[32];
+/* A capture of Ethernet in nanoseconds, of this machine's byte order. */
+static const uint32_t capture_head[CAPTURE_HEAD / 4] = {0xa1b23c4d, 2 | 4 << 16, 0, 0, 262144, 1};
+/* Octets for each file in a block, and room for a last line more; 0 if nothing is kept. */
+static size_t room;
+static bool started;
+atomic_uint written;
 
-/* Milliseconds of UTC, as a word that sorts by time. */
-static void put_time(char *word, size_t size) {
+/* Adds a record: the frame that was read, or the one of this index that the engine has written. */
+static bool add_frame(struct worker *w, struct block *block, int i, const struct taken *read, uint32_t index) {
+    uint8_t *at = block->octets[i] + block->filled[i];
+    size_t left = room - block->filled[i];
+    bool same = i == KEPT_IN || read->answer.as_read;
+    struct norm_frame copy = {read->size, 0};
+    if (left < RECORD_HEAD + (same ? read->size : 0)) return false;
+    if (same) memcpy(at + RECORD_HEAD, read->octets, read->size);
+    else if (norm_frame(&w->engine, index, at + RECORD_HEAD, left - RECORD_HEAD, &copy) != NORM_DONE) return false;
+    uint32_t size = (uint32_t)copy.size, head[] = {read->arrival.seconds, read->arrival.fraction, size, size};
+    memcpy(at, head, RECORD_HEAD);
+    block->filled[i] += RECORD_HEAD + copy.size;
+    return true;
+}
+
+/* Adds all that is kept of a frame, or nothing. */
+static bool add(struct worker *w, const struct taken *read) {
+    struct block *block = &w->kept.blocks[w->kept.current];
+    size_t before[KEPT];
+    memcpy(before, block->filled, sizeof before);
+    bool whole = !options.keep || add_frame(w, block, KEPT_IN, read, 0);
+    for (uint32_t i = 0; i < read->answer.frames && options.keep && whole; i++)
+        whole = add_frame(w, block, KEPT_OUT, read, i);
+    for (uint32_t i = 0; i < read->answer.records && whole; i++) {
+        size_t *filled = &block->filled[KEPT_REPORT], line = 0;
+        whole = norm_line(&w->engine, i, block->octets[KEPT_REPORT] + *filled, room - *filled, &line) == NORM_DONE;
+        *filled += line;
+    }
+    if (!whole) memcpy(block->filled, before, sizeof before);
+    block->frames += whole;
+    return whole;
+}
+
+/* Hands the worker's block over, if the next one was written. Returns whether that is the worker's now. */
+static bool hand_over(struct worker *w) {
+    struct kept *kept = &w->kept;
+    int after = (kept->current + 1) % BLOCKS;
+    struct block *next = &kept->blocks[after];
+    if (atomic_load(&next->full)) return false;
+    next->frames = 0;
+    next->cause = kept->cause;
+    memset(next->filled, 0, sizeof next->filled);
+    atomic_store(&kept->blocks[kept->current].full, true);
+    kept->current = after;
+    kept->cause = 0;
+    return true;
+}
+
+void keep(struct worker *w, const struct taken *read) {
+    for (int tries = 0; tries < 2; tries++) {
+        if (room == 0 || (w->kept.cause == 0 && add(w, read))) return;
+        if (!hand_over(w)) break;
+    }
+    ADD(w->kept.lost, 1);
+    w->kept.cause |= GAP;
+    if (options.strict) end_bridge(1, "the disk is too slow for --strict");
+}
+
+bool keep_pass(struct worker *w) {
+    const struct kept *kept = &w->kept;
+    if (kept->blocks[kept->current].frames == 0) return true;
+    /* While one is being written, the others are for what does not fit, or is of a new engine. */
+    return !atomic_load(&kept->blocks[(kept->current + BLOCKS - 1) % BLOCKS].full) && hand_over(w);
+}
+
+void keep_end(struct worker *w, bool renewed) {
+    bool lost = w->kept.cause && !hand_over(w);
+    struct block *block = &w->kept.blocks[w->kept.current];
+    size_t *filled = &block->filled[KEPT_REPORT], size = 0;
+    if (room > 0 && !lost) norm_last(&w->engine, block->octets[KEPT_REPORT] + *filled, LAST_LINE, &size);
+    *filled += size;
+    if (renewed) w->kept.cause |= RENEWED;
+}
+
+/* Returns the time in milliseconds of UTC, as a word that sorts by time. */
+static const char *time_word(void) {
+    static char word[32];
     struct timespec now;
     struct tm parts;
-    char second[20];
     clock_gettime(CLOCK_REALTIME, &now);
-    gmtime_r(&now.tv_sec, &parts);
-    strftime(second, sizeof second, "%Y%m%dT%H%M%S", &parts);
-    snprintf(word, size, "%s.%03uZ", second, (unsigned)(now.tv_nsec / 1000000) % 1000);
+    size_t at = strftime(word, sizeof word, "%Y%m%dT%H%M%S", gmtime_r(&now.tv_sec, &parts));
+    snprintf(word + at, sizeof word - at, ".%03uZ", (unsigned)(now.tv_nsec / 1000000) % 1000);
+    return word;
 }
 
-/* Ends the keeping of this file, and of those that are of no use without it. */
-static void give_up(struct norm *norm, struct kept *kept, const char *why) {
-    if (!atomic_exchange(&kept->on, false)) return;
-    for (int i = 0; i < REPORT_FILE && kept != &norm->kept[REPORT_FILE]; i++) atomic_store(&norm->kept[i].on, false);
-    say("%s: %s: %s", kept->path, why, options.strict ? "ending" : "it is not kept any more");
-    if (!options.strict) return;
-    atomic_store(&strict_failed, true);
-    raise_event(ended_event);
+static bool write_whole(int fd, const void *octets, size_t size) {
+    for (size_t done = 0; done < size;) {
+        ssize_t some = write(fd, (const char *)octets + done, size - done);
+        if (some < 0) return false;
+        done += (size_t)some;
+    }
+    return true;
 }
 
-/* Moves an older report aside, by the time: a report is never lost. */
-static bool move_aside(const char *path) {
-    struct stat about;
-    char word[32], other[PATH_ROOM + 40];
-    if (stat(path, &about) < 0 || !S_ISREG(about.st_mode) || about.st_size == 0) return true;
-    put_time(word, sizeof word);
-    snprintf(other, sizeof other, "%s-%s", path, word);
-    return rename(path, other) == 0;
-}
-
-/* Opens the next file. Each part of a capture has its head. */
-static bool open_part(const struct norm *norm, struct kept *kept) {
+/* Opens the next file of a kind. Returns why it cannot be written, or NULL. An older report is moved aside. */
+static const char *open_file(struct worker *w, int i, const char *mark) {
     static const char *const kinds[] = {"in", "out", "report"};
-    char job[8] = "";
-    bool alone = kept == &norm->kept[REPORT_FILE], capture = kept <= &norm->kept[KEPT_OUT];
-    if (options.jobs > 1) snprintf(job, sizeof job, ".%d", norm->number);
-    if (kept->fd > 2) close(kept->fd);
-    if (alone) snprintf(kept->path, PATH_ROOM, "%s%s", options.report, job);
+    struct file *file = &w->kept.files[i];
+    bool capture = i < KEPT_REPORT, alone = i == REPORT_FILE;
+    char job[8] = "", aside[sizeof file->path + 40];
+    struct stat about;
+    if (options.jobs > 1) snprintf(job, sizeof job, ".%d", w->number);
+    if (alone) snprintf(file->path, sizeof file->path, "%s%s", options.report, job);
     else
-        snprintf(kept->path, PATH_ROOM, "%s/%s-%s%s-%06u.%s", options.keep, kinds[kept - norm->kept], run_name, job,
-                 ++kept->part, capture ? "pcap" : "txt");
-    kept->fd = -1;
-    if (alone && !move_aside(kept->path)) return false;
-    kept->fd = open(kept->path, O_WRONLY | O_CREAT | O_CLOEXEC | O_NOCTTY | (alone ? O_TRUNC : O_EXCL), MODE);
-    if (kept->fd < 0) return false;
+        snprintf(file->path, sizeof file->path, "%s/%s-%s%s-%06u%s.%s", options.keep, kinds[i], w->kept.run, job,
+                 w->kept.part, mark, capture ? "pcap" : "txt");
+    snprintf(aside, sizeof aside, "%s-%s%s", file->path, time_word(), mark);
+    bool older = alone && lstat(file->path, &about) == 0 && S_ISREG(about.st_mode) && about.st_size > 0;
+    if (older && rename(file->path, aside) < 0) return strerror(errno);
+    int flags = O_WRONLY | O_CREAT | O_CLOEXEC | O_NOFOLLOW | O_NONBLOCK | (alone ? O_TRUNC : O_EXCL);
+    file->fd = open(file->path, flags, 0600);
+    if (file->fd < 0) return strerror(errno);
+    if (fstat(file->fd, &about) < 0 || !S_ISREG(about.st_mode)) return "it is no regular file";
+    size_t head = capture ? CAPTURE_HEAD : w->kept.part == 1 ? w->first_size : 0;
+    if (!write_whole(file->fd, capture ? (const void *)capture_head : w->first, head)) return strerror(errno);
+    file->size = head;
+    return NULL;
+}
+
+/* Ends the files with whole records of the same frames, and says why. They begin again some seconds later. */
+static void fail_files(struct kept *kept, int failed, const char *why) {
+    const char *path = kept->files[failed].path;
+    bool empty = kept->files[KEPT_IN].size <= CAPTURE_HEAD;
+    if (!started) fail(2, "%s: %s (it is opened as the user of --user)", path, why);
+    for (struct file *file = kept->files; file < kept->files + KEPT; file++) {
+        if (file->fd < 0) continue;
+        if (empty && file != &kept->files[REPORT_FILE]) unlink(file->path);
+        else if (ftruncate(file->fd, (off_t)file->size) < 0) say("%s: %s", file->path, strerror(errno));
+    }
+    kept->open = false;
+    kept->retry = time(NULL) + RETRY_SECONDS;
+    if (options.strict) end_bridge(1, "%s: %s", path, why);
+    else say("%s: %s: trying again in %d seconds", path, why, RETRY_SECONDS);
+}
+
+/* Begins new files, which are owed for a cause, or due. */
+static void begin_files(struct worker *w) {
+    struct kept *kept = &w->kept;
+    const char *why = NULL;
+    bool gap = kept->owed & GAP, renewed = kept->owed & RENEWED;
+    int i;
+    if (renewed) snprintf(kept->run, sizeof kept->run, "%s", time_word());
+    kept->part = renewed ? 1 : kept->part + 1;
     kept->since = time(NULL);
-    kept->size = capture ? CAPTURE_HEAD : 0;
-    return !capture || write(kept->fd, capture_head, CAPTURE_HEAD) == CAPTURE_HEAD;
-}
-
-static bool is_due(const struct norm *norm, const struct kept *kept) {
-    if (options.rotate > 0 && kept->size >= options.rotate) return true;
-    return kept != &norm->kept[REPORT_FILE] && time(NULL) - kept->since >= KEPT_SECONDS;
-}
-
-/* Writes what a ring holds. What is written of a record or line on a full disk is cut off again. */
-static void write_kept(struct norm *norm, struct kept *kept) {
-    uint64_t put = atomic_load_explicit(&kept->put, memory_order_acquire), taken = GET(kept->taken), left = put - taken;
-    if (!kept->on || left == 0) return;
-    if (is_due(norm, kept) && !open_part(norm, kept)) {
-        give_up(norm, kept, strerror(errno));
-        return;
+    kept->owed = 0;
+    for (i = 0; i < KEPT; i++) {
+        if (kept->files[i].fd >= 0) close(kept->files[i].fd);
+        kept->files[i].fd = -1;
+        kept->files[i].size = 0;
     }
-    for (uint64_t done = 0; done < left;) {
-        uint64_t from = (taken + done) % KEPT_RING, some = left - done;
-        if (some > KEPT_RING - from) some = KEPT_RING - from;
-        ssize_t got = write(kept->fd, kept->ring + from, some);
-        if (got < 0 && errno == EINTR) continue;
-        if (got <= 0) {
-            int why = errno;
-            if (ftruncate(kept->fd, (off_t)kept->size) < 0) why = errno == EINVAL ? why : errno;
-            give_up(norm, kept, strerror(why));
-            return;
+    while (i-- > 0 && !why)
+        if (i == REPORT_FILE ? options.report : options.keep) why = open_file(w, i, gap ? "-gap" : "");
+    kept->open = !why;
+    if (why) fail_files(kept, i + 1, why);
+    else if (gap)
+        say("%s: frames before it are not kept: %ju so far", kept->files[options.keep ? KEPT_IN : REPORT_FILE].path,
+            (uintmax_t)(GET(kept->lost) + GET(kept->unwritten)));
+}
+
+/* Writes a block, in new files where that is due. */
+static void write_block(struct worker *w, const struct block *block) {
+    struct kept *kept = &w->kept;
+    int64_t now = time(NULL);
+    bool due = options.keep && now >= kept->since + HOUR;
+    for (int i = 0; i < KEPT; i++) due = due || (options.rotate > 0 && kept->files[i].size >= options.rotate);
+    kept->owed |= block->cause | (kept->open ? 0 : GAP);
+    if (block->frames == 0 && block->filled[KEPT_REPORT] == 0) return;
+    if ((due || kept->owed) && now >= kept->retry) begin_files(w);
+    static const int from[KEPT] = {KEPT_IN, KEPT_OUT, KEPT_REPORT, KEPT_REPORT};
+    for (int i = 0; i < KEPT && kept->open; i++)
+        if (kept->files[i].fd >= 0 && !write_whole(kept->files[i].fd, block->octets[from[i]], block->filled[from[i]]))
+            fail_files(kept, i, strerror(errno));
+    for (int i = 0; i < KEPT && kept->open; i++) kept->files[i].size += block->filled[from[i]];
+    if (!kept->open) ADD(kept->unwritten, block->frames);
+}
+
+/* The thread that writes, until the workers have ended and all is written. */
+void *write_kept(void *unused) {
+    for (bool last = false; !last && room > 0;) {
+        last = atomic_load(&ended) == options.jobs;
+        for (struct worker *w = workers; w < workers + options.jobs; w++) {
+            struct block *block = &w->kept.blocks[w->kept.writing];
+            for (; atomic_load(&block->full); block = &w->kept.blocks[w->kept.writing]) {
+                write_block(w, block);
+                atomic_store(&block->full, false);
+                w->kept.writing = (w->kept.writing + 1) % BLOCKS;
+            }
+            if (last) write_block(w, block);
         }
-        done += (uint64_t)got;
+        poll(NULL, 0, last ? 0 : NAP_MILLISECONDS);
     }
-    kept->size += left;
-    atomic_store_explicit(&kept->taken, put, memory_order_release);
-}
-
-static void *write_files(void *unused) {
-    for (;;) {
-        pthread_mutex_lock(&files);
-        for (uint64_t j = 0; j < options.jobs; j++)
-            for (int i = 0; i < KEPT; i++) write_kept(&norms[j], &norms[j].kept[i]);
-        pthread_mutex_unlock(&files);
-        poll(NULL, 0, NAP_MILLISECONDS);
-    }
+    atomic_store(&written, 1);
+    raise_event();
     return unused;
 }
 
-/* Copies whole records or lines for the thread that writes. */
-void keep_octets(struct norm *norm, int which, const void *octets, size_t length) {
-    struct kept *kept = &norm->kept[which];
-    if (!atomic_load_explicit(&kept->on, memory_order_relaxed)) return;
-    uint64_t put = GET(kept->put), at = put % KEPT_RING;
-    size_t first = length < KEPT_RING - at ? length : KEPT_RING - at;
-    if (put + length - atomic_load_explicit(&kept->taken, memory_order_acquire) > KEPT_RING) {
-        give_up(norm, kept, "the disk is too slow");
-        return;
+/* Allocates the blocks, and opens the first files. */
+void open_kept(void) {
+    if (!options.keep && !options.report) return;
+    room = ROOM / options.jobs > LEAST_ROOM ? ROOM / options.jobs : LEAST_ROOM;
+    snprintf(workers[0].kept.run, sizeof workers[0].kept.run, "%s", time_word());
+    for (struct worker *w = workers; w < workers + options.jobs; w++) {
+        for (int i = 0; i < KEPT; i++) {
+            w->kept.files[i].fd = -1;
+            for (int b = 0; b < BLOCKS && i < REPORT_FILE; b++)
+                if (!(w->kept.blocks[b].octets[i] = calloc(1, room + LAST_LINE))) fail(1, "no memory for files");
+        }
+        memcpy(w->kept.run, workers[0].kept.run, sizeof w->kept.run);
+        begin_files(w);
     }
-    memcpy(kept->ring + at, octets, first);
-    memcpy(kept->ring, (const char *)octets + first, length - first);
-    atomic_store_explicit(&kept->put, put + length, memory_order_release);
-}
-
-/* Opens the files of a run. A file that cannot be opened at the start of the bridge ends it. */
-void keep_begin(struct norm *norm) {
-    static bool started;
-    pthread_t thread;
-    if (!options.report && !options.keep) return;
-    pthread_mutex_lock(&files);
-    if (norm->number == 0) put_time(run_name, sizeof run_name);
-    for (int i = 0; i < KEPT; i++) {
-        struct kept *kept = &norm->kept[i];
-        kept->fd = -1;
-        kept->part = 0;
-        if (i == REPORT_FILE ? !options.report : !options.keep) continue;
-        if (!kept->ring && !(kept->ring = malloc(KEPT_RING))) fail(1, "memory could not be allocated");
-        kept->put = kept->taken = 0;
-        atomic_store(&kept->on, true);
-        if (open_part(norm, kept)) continue;
-        if (!started) fail(2, "%s: %s (it is opened as the user of norm: --user)", kept->path, strerror(errno));
-        give_up(norm, kept, strerror(errno));
-    }
-    pthread_mutex_unlock(&files);
-    if (!started && norm->number == (int)options.jobs - 1) {
-        started = true;
-        if (pthread_create(&thread, NULL, write_files, NULL) != 0) fail(1, "a thread could not be started");
-    }
-}
-
-/* Writes and closes what is left of a run. */
-void keep_end(struct norm *norm) {
-    pthread_mutex_lock(&files);
-    for (int i = 0; i < KEPT; i++) {
-        write_kept(norm, &norm->kept[i]);
-        if (norm->kept[i].fd > 2) close(norm->kept[i].fd);
-        atomic_store(&norm->kept[i].on, false);
-        norm->kept[i].fd = -1;
-    }
-    pthread_mutex_unlock(&files);
+    started = true;
 }

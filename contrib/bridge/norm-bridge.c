@@ -1,265 +1,227 @@
 /* Passes the IPv4 frames of two interfaces through norm. norm-bridge(8) says how it is used. */
 #include "norm-bridge.h"
-#include <errno.h>
 #include <fcntl.h>
-#include <poll.h>
+#include <grp.h>
+#include <linux/capability.h>
+#include <pthread.h>
+#include <pwd.h>
 #include <signal.h>
 #include <stdarg.h>
-#include <stdio.h>
-#include <stdlib.h>
-#include <string.h>
 #include <sys/eventfd.h>
-#include <sys/signalfd.h>
-#include <time.h>
-#include <unistd.h>
+#include <sys/prctl.h>
+#include <sys/syscall.h>
+
+enum { WRITE_SECONDS = 10, CAPABILITIES = 64 };
 
 struct options options = {.jobs = 1};
 struct side sides[SIDES];
-struct norm norms[JOBS];
-atomic_bool passing, fed, strict_failed;
-int ended_event;
-
-/* What the main thread knows of the runs that are under way. */
-struct course {
-    int signals;
-    bool stopping, failing, closed, vanished;
-    int stuck;
-    uint64_t printed;
-};
+struct worker workers[JOBS];
+atomic_uint state;
+int stop_event;
+/* The signals that the main thread waits for; SIGUSR2 is sent by the other threads. */
+static sigset_t heard;
+/* How the bridge ends; -1 as long as it does not. */
+static atomic_int status = -1;
 
 /* Writes one line to standard error, in one piece. */
-static void put_line(const char *form, va_list parts) {
-    char line[2048];
-    int head = snprintf(line, sizeof line, "%snorm-bridge: ", options.every && isatty(2) ? "\r\033[K" : "");
-    int all = head + vsnprintf(line + head, sizeof line - (size_t)head - 1, form, parts);
-    if (all > (int)sizeof line - 2) all = (int)sizeof line - 2;
-    line[all] = '\n';
-    if (write(2, line, (size_t)all + 1) < 0) return;
-}
-
 void say(const char *form, ...) {
+    char line[2048] = "norm-bridge: ";
+    size_t head = strlen(line);
     va_list parts;
     va_start(parts, form);
-    put_line(form, parts);
+    vsnprintf(line + head, sizeof line - head - 1, form, parts);
     va_end(parts);
+    strcat(line, "\n");
+    if (write(2, line, strlen(line)) < 0) return;
 }
 
-void fail(int status, const char *form, ...) {
-    va_list parts;
-    va_start(parts, form);
-    put_line(form, parts);
-    va_end(parts);
-    exit(status);
+uint64_t now_of(clockid_t clock) {
+    struct timespec now;
+    clock_gettime(clock, &now);
+    return (uint64_t)now.tv_sec * 1000000000 + (uint64_t)now.tv_nsec;
 }
 
-void raise_event(int event) {
-    uint64_t one = 1;
-    while (write(event, &one, sizeof one) < 0 && errno == EINTR) {}
+void raise_event(void) { kill(getpid(), SIGUSR2); }
+
+bool is_first_end(int how) {
+    bool first = atomic_compare_exchange_strong(&status, &(int){-1}, how);
+    raise_event();
+    return first;
 }
 
-static void clear_event(int event) {
-    uint64_t all;
-    while (read(event, &all, sizeof all) < 0 && errno == EINTR) {}
-}
+bool is_ending(void) { return atomic_load(&status) >= 0; }
 
-/* Opens descriptors 0 to 2 where they are closed, so that no other file becomes one of them. */
-static void open_standard(void) {
+/* Prepares signals. Descriptors 0 to 2 are opened first, so that no other file becomes one of them. */
+static void begin_signals(void) {
+    static const int ignored[] = {SIGPIPE, SIGHUP, SIGXFSZ}, taken[] = {SIGINT, SIGTERM, SIGUSR1, SIGUSR2, SIGALRM};
     int opened;
-    do opened = open("/dev/null", O_RDWR);
-    while (opened >= 0 && opened <= 2);
-    if (opened > 2) close(opened);
+    while ((opened = open("/dev/null", O_RDWR)) >= 0 && opened <= 2) {}
+    close(opened);
+    for (size_t i = 0; i < sizeof ignored / sizeof *ignored; i++) signal(ignored[i], SIG_IGN);
+    sigemptyset(&heard);
+    for (size_t i = 0; i < sizeof taken / sizeof *taken; i++) sigaddset(&heard, taken[i]);
+    sigprocmask(SIG_BLOCK, &heard, NULL);
+    stop_event = eventfd(0, EFD_CLOEXEC);
+    if (stop_event < 0) fail(1, "eventfd: %s", strerror(errno));
 }
 
-static int block_signals(void) {
-    sigset_t blocked;
-    sigemptyset(&blocked);
-    sigaddset(&blocked, SIGINT);
-    sigaddset(&blocked, SIGTERM);
-    sigaddset(&blocked, SIGUSR1);
-    signal(SIGPIPE, SIG_IGN);
-    sigprocmask(SIG_BLOCK, &blocked, NULL);
-    int signals = signalfd(-1, &blocked, SFD_CLOEXEC | SFD_NONBLOCK);
-    if (signals < 0) fail(1, "signalfd: %s", strerror(errno));
-    return signals;
-}
-
-static void allocate(void) {
-    feed_event = eventfd(0, EFD_CLOEXEC | EFD_NONBLOCK);
-    ended_event = eventfd(0, EFD_CLOEXEC | EFD_NONBLOCK);
-    if (feed_event < 0 || ended_event < 0) fail(1, "eventfd: %s", strerror(errno));
-    for (uint64_t j = 0; j < options.jobs; j++) {
-        norms[j].number = (int)j;
-        norms[j].batch = malloc(BATCH);
-        norms[j].frames = malloc(BATCH);
-        if (!norms[j].batch || !norms[j].frames) fail(1, "memory could not be allocated");
-        for (int k = 0; k < SIDES; k++) norms[j].sockets[k] = open_socket(&sides[k]);
+/* Gives up all privileges for good: the interfaces are open. */
+static void drop_privileges(void) {
+    const char *name = options.user ? options.user : "nobody";
+    struct __user_cap_header_struct head = {_LINUX_CAPABILITY_VERSION_3, 0};
+    struct __user_cap_data_struct none[2] = {{0, 0, 0}, {0, 0, 0}};
+    for (int i = 0; i < CAPABILITIES; i++) prctl(PR_CAPBSET_DROP, i, 0, 0, 0);
+    if (geteuid() == 0 || options.user) {
+        const struct passwd *user = getpwnam(name);
+        if (!user) fail(2, "--user %s: no such user", name);
+        if (user->pw_uid == 0) fail(2, "--user %s: norm does not run as root", name);
+        uid_t id = user->pw_uid;
+        gid_t group = user->pw_gid;
+        if (geteuid() != 0 && geteuid() != id) fail(2, "--user %s: only root changes its user", name);
+        if (geteuid() == 0
+            && (initgroups(name, group) < 0 || setresgid(group, group, group) < 0 || setresuid(id, id, id) < 0))
+            fail(2, "--user %s: %s", name, strerror(errno));
     }
+    prctl(PR_CAP_AMBIENT, PR_CAP_AMBIENT_CLEAR_ALL, 0, 0, 0);
+    if (prctl(PR_SET_NO_NEW_PRIVS, 1, 0, 0, 0) < 0 || prctl(PR_SET_DUMPABLE, 0, 0, 0, 0) < 0
+        || syscall(SYS_capset, &head, none) < 0)
+        fail(2, "privileges cannot be given up: %s", strerror(errno));
 }
 
-static void begin_thread(pthread_t *thread, void *(*run)(void *), void *user) {
-    if (pthread_create(thread, NULL, run, user) != 0) fail(1, "a thread could not be started");
-}
-
-/* The first signal ends the reading; a second one ends norm. */
-static void take_signals(struct course *course) {
-    struct signalfd_siginfo one;
-    while (read(course->signals, &one, sizeof one) == sizeof one) {
-        if (one.ssi_signo == SIGUSR1) {
-            print_counts(false, true);
-        } else if (!course->stopping) {
-            course->stopping = true;
-            raise_event(feed_event);
-        } else if (!options.without_norm) {
-            for (uint64_t j = 0; j < options.jobs; j++)
-                if (!atomic_load(&norms[j].ended)) kill_norm(&norms[j]);
+/* Adds what the kernel dropped since the last call. */
+static void read_kernel(void) {
+    for (struct worker *w = workers; w < workers + options.jobs; w++)
+        for (int k = 0; k < SIDES; k++) {
+            struct tpacket_stats stats = {0, 0};
+            socklen_t size = sizeof stats;
+            getsockopt(w->ports[k].socket, SOL_PACKET, PACKET_STATISTICS, &stats, &size);
+            ADD(w->ports[k].kernel, stats.tp_drops);
         }
-    }
 }
 
-/* Once a second: do both links exist, and is a line of counts due? */
-static void tick(struct course *course) {
-    for (int k = 0; k < SIDES; k++) {
-        if (course->vanished || link_exists(&sides[k])) continue;
-        say("%s is gone", sides[k].name);
-        course->vanished = course->stopping = true;
-        raise_event(feed_event);
-    }
-    if (options.every > 0 && clock_now() >= course->printed + options.every * 1000000000) {
-        course->printed += options.every * 1000000000;
-        print_counts(true, false);
-    }
-}
-
-/* One run ended and nobody asked for it: nothing passes any more, and the others are ended too. */
-static void fail_closed(struct course *course) {
-    course->failing = true;
-    atomic_store(&passing, false);
-    raise_event(feed_event);
-    for (uint64_t j = 0; j < options.jobs; j++) {
-        if (atomic_load(&norms[j].ended)) continue;
-        norms[j].aside = true;
-        kill_norm(&norms[j]);
-    }
-}
-
-static bool any_ended(bool all) {
-    uint64_t ended = 0;
-    for (uint64_t j = 0; j < options.jobs && !options.without_norm; j++) ended += atomic_load(&norms[j].ended);
-    return all ? options.without_norm || ended == options.jobs : ended > 0;
-}
-
-/* Whether a run ended by itself, reads no more, or a file could not be written with --strict. */
-static bool is_broken(struct course *course) {
-    if (course->closed) return atomic_load(&strict_failed);
-    if (any_ended(false) || atomic_load(&strict_failed)) return true;
-    bool waiting = atomic_load(&fed) && !course->stopping && !options.without_norm;
-    if (waiting && ++course->stuck == 3) say("norm does not read any more");
-    return waiting && course->stuck >= 3;
-}
-
-/* Waits until the threads of the runs have ended. */
-static void watch(struct course *course) {
-    struct pollfd waits[2] = {{course->signals, POLLIN, 0}, {ended_event, POLLIN, 0}};
-    while (!atomic_load(&fed) || !any_ended(true)) {
-        poll(waits, 2, 1000 - (int)(clock_now() / 1000000 % 1000));
-        clear_event(ended_event);
-        take_signals(course);
-        tick(course);
-        if (!course->failing && is_broken(course)) fail_closed(course);
-        if (!atomic_load(&fed) || course->closed || !(course->stopping || course->failing)) continue;
-        course->closed = true;
-        for (uint64_t j = 0; j < options.jobs && !options.without_norm; j++) {
-            close(norms[j].in);
-            norms[j].in = -1;
-        }
-    }
-}
-
-/* Starts all runs, and returns 0; if one does not begin, ends them and returns the status. */
-static int start_all(void) {
-    for (uint64_t j = 0; j < options.jobs; j++) {
-        bool again;
-        norms[j].aside = false;
-        if (start_norm(&norms[j])) continue;
-        int status = end_norm(&norms[j], false, &again);
-        for (uint64_t i = 0; i < j; i++) {
-            norms[i].aside = true;
-            end_norm(&norms[i], false, &again);
-        }
-        return status;
+/* Returns the microseconds that this share of the frames needed at most. */
+static uintmax_t percentile(const uint64_t *waits, unsigned percent) {
+    uint64_t all = 0, so_far = 0;
+    for (unsigned i = 0; i < BUCKETS; i++) all += waits[i];
+    for (unsigned i = 0; i < BUCKETS && all > 0; i++) {
+        unsigned power = i < 32 ? 0 : i / 16 - 1;
+        so_far += waits[i];
+        if (so_far * 100 >= all * percent) return (uintmax_t)(i - power * 16 + 1) << power;
     }
     return 0;
 }
 
-/* Passes frames until norm ends. Returns the status; `again`: whether norm may be restarted. */
-static int pass_frames(struct course *course, bool *again) {
-    static bool warned;
-    pthread_t feeder;
-    int status = 0;
-    for (uint64_t j = 0; j < options.jobs && !options.without_norm; j++) keep_begin(&norms[j]);
-    if (!warned) warn_of_sides();
-    warned = true;
-    clear_event(feed_event);
-    drain();
-    atomic_store(&fed, false);
-    atomic_store(&passing, true);
-    course->closed = course->failing = false;
-    course->stuck = 0;
-    for (uint64_t j = 0; j < options.jobs && !options.without_norm; j++) {
-        begin_thread(&norms[j].sender, send_frames, &norms[j]);
-        begin_thread(&norms[j].reader, read_report, &norms[j]);
-    }
-    begin_thread(&feeder, feed, NULL);
-    watch(course);
-    atomic_store(&passing, false);
-    pthread_join(feeder, NULL);
-    *again = true;
-    for (uint64_t j = 0; j < options.jobs && !options.without_norm; j++) {
-        bool mine = true;
-        pthread_join(norms[j].sender, NULL);
-        pthread_join(norms[j].reader, NULL);
-        keep_end(&norms[j]);
-        int one = end_norm(&norms[j], course->stopping && !course->failing, &mine);
-        if (one > 0) status = 1;
-        *again = *again && mine;
-    }
-    if (course->vanished || atomic_load(&strict_failed)) status = 1, *again = false;
-    return status;
+/* Returns the sum over all workers of a counter, which is named by that of the first one. */
+static uintmax_t sum(const count *first) {
+    uint64_t all = 0;
+    const char *at = (const char *)first;
+    for (uint64_t j = 0; j < options.jobs; j++, at += sizeof *workers) all += GET(*(const count *)(const void *)at);
+    return all;
 }
 
-/* Waits until a second after the last start. Frames that arrive meanwhile are counted and lost. */
-static void rest(struct course *course, uint64_t started) {
-    while (!course->stopping && clock_now() < started + 1000000000) {
-        poll(&(struct pollfd){course->signals, POLLIN, 0}, 1, 20);
-        take_signals(course);
-        drain();
+/* Prints all counts in one line, with the waits since the start, or since the last line of --every. */
+static void print_counts(bool since_start) {
+    static const char *const names[] = {"outside", "inside"}, *const verdicts[] = {"pass", "fix", "hold", "drop"},
+                      *const fates[] = {"given", "forged", "arp", "unjudged", "too-long", "truncated"};
+    static uint64_t before[BUCKETS];
+    const struct worker *w = &workers[0];
+    uint64_t waits[BUCKETS];
+    char *text = NULL;
+    size_t size;
+    FILE *line = open_memstream(&text, &size);
+    if (!line) return;
+    read_kernel();
+    for (int i = 0; i < BUCKETS; i++) {
+        uint64_t all = sum(&w->waits[i]);
+        waits[i] = since_start ? all : all - before[i];
+        if (!since_start) before[i] = all;
     }
+    for (const struct port *port = w->ports; port < w->ports + SIDES; port++) {
+        fprintf(line, "%s: received %ju", names[port - w->ports], sum(&port->received));
+        for (int i = 0; i < FATES; i++) fprintf(line, " %s %ju", fates[i], sum(&port->fates[i]));
+        fprintf(line, " sent %ju failed %ju kernel %ju; ", sum(&port->sent), sum(&port->failed), sum(&port->kernel));
+    }
+    fprintf(line, "norm: wrote %ju", sum(&w->wrote));
+    for (int i = 0; i < VERDICTS; i++) fprintf(line, " %s %ju", verdicts[i], sum(&w->verdicts[i]));
+    fprintf(line, "; kept: lost %ju; microseconds: 50%% %ju 99%% %ju", sum(&w->kept.lost) + sum(&w->kept.unwritten),
+            percentile(waits, 50), percentile(waits, 99));
+    fclose(line);
+    say("%s", text);
+    free(text);
+}
+
+/* Waits for a signal, for a second at most. The first one that ends the bridge has it finish its work. */
+void wait_once(void) {
+    int one = sigtimedwait(&heard, NULL, &(struct timespec){1, 0});
+    if (one == SIGUSR1) print_counts(true);
+    if (one != SIGINT && one != SIGTERM && one != SIGALRM) return;
+    if (one != SIGALRM && is_first_end(0)) {
+        say("ending by %s", one == SIGINT ? "SIGINT" : "SIGTERM");
+        return;
+    }
+    say("ending at once: %s", one == SIGALRM ? "files could not be written in time" : "a second signal");
+    _exit(1);
+}
+
+/* Once a second: does each interface exist, and is something to be said? */
+static void tick(void) {
+    static uint64_t last, printed;
+    static bool warned[SIDES];
+    uint64_t now = now_of(CLOCK_MONOTONIC) / 1000000000;
+    if (now == last) return;
+    if (last == 0) printed = now;
+    last = now;
+    read_kernel();
+    for (int k = 0; k < SIDES; k++) {
+        if (!link_exists(&sides[k])) end_bridge(1, "%s is gone", sides[k].name);
+        if (warned[k] || sum(&workers[0].ports[k].unlike) == 0) continue;
+        warned[k] = true;
+        say("warning: frames of %s were merged or lack checksums, here or at the senders: "
+            "ethtool -K DEV gro off lro off gso off tso off tx off", sides[k].name);
+    }
+    if (options.every == 0 || now < printed + options.every) return;
+    printed += options.every;
+    print_counts(false);
+}
+
+/* Waits until so many of the other threads are so far. If the bridge is to end, they receive nothing any more. */
+static void wait_for(const atomic_uint *threads, uint64_t wanted) {
+    while (atomic_load(threads) < wanted) {
+        wait_once();
+        tick();
+        if (!is_ending() || atomic_exchange(&state, STOPPING) == STOPPING) continue;
+        set_filters(false);
+        eventfd_write(stop_event, 1);
+    }
+}
+
+static void begin_thread(void *(*run)(void *), void *user) {
+    pthread_t thread;
+    if (pthread_create(&thread, NULL, run, user) != 0) fail(1, "a thread could not be started");
+    pthread_detach(thread);
 }
 
 int main(int count, char **words) {
-    struct course course = {0};
-    int status;
-    bool again, began = false;
-    open_standard();
+    begin_signals();
     read_words(count, words);
     open_sides();
-    allocate();
+    if (!options.without_norm) make_engine_words();
     drop_privileges();
-    clock_begin();
-    course.signals = block_signals();
-    course.printed = clock_now();
-    if (options.without_norm) say("warning: frames pass without norm");
-    else resolve_norm();
-    for (;;) {
-        uint64_t started = clock_now();
-        if (!options.without_norm && (status = start_all()) > 0) break;
-        began = true;
-        status = pass_frames(&course, &again);
-        if (course.stopping || status == 0 || !again || !options.restart) break;
-        say("starting norm again");
-        rest(&course, started);
-        if (course.stopping) break;
+    for (int j = 0; j < (int)options.jobs; j++) {
+        workers[j].number = j;
+        begin_thread(work, &workers[j]);
     }
-    if (began) print_counts(false, true);
-    return began && status > 0 ? 1 : status;
+    wait_for(&ready, options.jobs);
+    if (is_ending()) exit(status);
+    open_kept();
+    begin_thread(write_kept, NULL);
+    if (options.without_norm) say("warning: frames pass without norm");
+    warn_of_sides();
+    atomic_store(&state, PASSING);
+    set_filters(true);
+    wait_for(&ended, options.jobs);
+    alarm(WRITE_SECONDS);
+    wait_for(&written, 1);
+    print_counts(true);
+    return status;
 }

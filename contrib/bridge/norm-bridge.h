@@ -1,137 +1,139 @@
-/* What the parts of norm-bridge share: the two interfaces, the runs of norm, and the options. */
+/* What the parts of norm-bridge share: the options, the two interfaces, and the workers. */
 #ifndef NORM_BRIDGE_H
 #define NORM_BRIDGE_H
 #define _GNU_SOURCE
-#include <pcap/pcap.h>
-#include <pthread.h>
+#include "norm.h"
+#include <errno.h>
+#include <linux/if_packet.h>
+#include <poll.h>
 #include <stdatomic.h>
-#include <stdbool.h>
-#include <stddef.h>
-#include <stdint.h>
-#include <sys/types.h>
+#include <stdio.h>
+#include <stdlib.h>
+#include <string.h>
+#include <sys/socket.h>
+#include <time.h>
+#include <unistd.h>
 
-enum { OUTSIDE, INSIDE, SIDES };
-enum { PREFIXES = 16, JOBS = 64, NORM_WORDS = 64 };
-/* Octets of a frame, at most: those of the longest IPv4 packet and its Ethernet header. */
-enum { LONGEST = 65549, RECORD_HEAD = 16, CAPTURE_HEAD = 24, BATCH = 1 << 19 };
-/* Sixteen buckets for each power of two of microseconds. */
+enum { SIDES = 2, FATES = NORM_TRUNCATED + 1, VERDICTS = NORM_DROP + 1, JOBS = 64 };
+/* Frames that are read or sent at once, and octets of a frame at most. */
+enum { BATCH = 64, LONGEST = 65549, COPIES = 1 << 20 };
+/* Of waits, sixteen for each power of two of microseconds. */
 enum { BUCKETS = 512 };
-enum { PASS, FIX, HOLD, DROP, VERDICTS };
+enum { KEPT_IN, KEPT_OUT, KEPT_REPORT, REPORT_FILE, KEPT, BLOCKS = 3 };
 
+/* A counter has one thread that writes it; the main thread reads it. */
 typedef _Atomic uint64_t count;
-#define ADD(counter, n) atomic_fetch_add_explicit(&(counter), (n), memory_order_relaxed)
 #define GET(counter) atomic_load_explicit(&(counter), memory_order_relaxed)
+#define ADD(counter, n) atomic_store_explicit(&(counter), GET(counter) + (n), memory_order_relaxed)
 
-struct prefix {
-    uint32_t net, mask;
-};
-
-struct side {
-    const char *name;
-    pcap_t *ring;
-    unsigned index, mtu;
-    /* Each received frame is counted once more: given to norm, or one of the second line. */
-    count received;
-    count forged, arp, unjudged, too_long, down, given;
-    count sent, failed, kernel;
-    /* Lines of norm's report for this side, and those that name a wrong checksum and drop. */
-    count lines, wrong;
-    bool warned;
-};
-
-/* Files of a run: IN, OUT and report in a folder, and the report alone. */
-enum { KEPT_IN, KEPT_OUT, KEPT_REPORT, REPORT_FILE, KEPT, PATH_ROOM = 4096 };
-
-/* A file that is kept in parts, and the ring of what is not written to it yet. */
-struct kept {
-    atomic_bool on;
+/* A worker's socket on an interface: its receive ring, and the frames that leave by it. */
+struct port {
+    int socket;
     unsigned char *ring;
-    count put, taken;
-    int fd;
+    size_t slot;
+    unsigned slots, next, filled;
+    struct mmsghdr heads[BATCH];
+    struct iovec parts[BATCH];
+    uint64_t times[BATCH];
+    /* The send queue was full for as long as it is waited for, and nothing was sent since. */
+    bool stuck;
+    /* Frames received, what became of them, and those that are not as they were on the wire. */
+    count received, fates[FATES], unlike, sent, failed, kernel;
+};
+
+/* A frame that was read, and the engine's answer to it. */
+struct taken {
+    struct norm_arrival arrival;
+    const uint8_t *octets;
+    size_t size;
+    struct norm_answer answer;
+};
+
+/* What a worker has kept of frames: octets for each file, and why new files begin with them. */
+struct block {
+    atomic_bool full;
+    uint32_t cause;
+    uint64_t frames;
+    size_t filled[KEPT];
+    uint8_t *octets[KEPT];
+};
+
+/* The worker fills the current block; the thread that writes has those that are full, and the files. */
+struct kept {
+    struct block blocks[BLOCKS];
+    int current, writing;
+    uint32_t cause, owed;
+    count lost, unwritten;
+    struct file {
+        int fd;
+        uint64_t size;
+        char path[4096];
+    } files[KEPT];
+    bool open;
     unsigned part;
-    uint64_t size;
-    int64_t since;
-    char path[PATH_ROOM];
+    int64_t since, retry;
+    char run[32];
 };
 
-/* One run of norm: its process, its pipes, and the threads that read them. */
-struct norm {
+/* A thread with an engine, for a part of the hosts inside. */
+struct worker {
     int number;
-    pid_t pid;
-    int in, out, report, errors;
-    int sockets[SIDES];
-    pthread_t sender, reader;
-    /* How long the report's reader may nap: the pipe holds what norm writes meanwhile. */
-    int nap;
-    /* OUT has ended; its head was read; the bridge killed norm, maybe since another run ended. */
-    atomic_bool ended;
-    bool answered, killed, aside;
-    unsigned char *batch, *frames;
-    size_t filled;
-    count written, verdicts[VERDICTS], waits[BUCKETS];
-    /* The line of the report that is not complete yet, and the last complete one. */
-    char line[128], last[128];
-    size_t line_filled;
-    struct kept kept[KEPT];
+    struct norm_handle engine;
+    /* The first line of its report. */
+    uint8_t first[64];
+    size_t first_size;
+    bool broken;
+    struct port ports[SIDES];
+    /* Copies of the frames that leave changed, until they are sent. */
+    uint8_t copies[COPIES];
+    size_t copied;
+    count wrote, verdicts[VERDICTS], waits[BUCKETS];
+    struct kept kept;
 };
 
-struct options {
-    const char *norm, *user, *report, *keep;
-    bool restart, strict, without_norm;
+extern struct options {
+    const char *user, *report, *keep;
+    bool strict, without_norm;
     uint64_t rotate, every, jobs;
-    struct prefix prefixes[PREFIXES];
-    char **prefix_words;
-    int prefix_count;
-    char *norm_words[NORM_WORDS];
-    int norm_count;
-};
+} options;
+extern struct side {
+    const char *name;
+    unsigned index, mtu;
+    bool up;
+} sides[SIDES];
+extern struct worker workers[JOBS];
 
-extern struct options options;
-extern struct side sides[SIDES];
-extern struct norm norms[JOBS];
-/* Whether frames pass: false while no norm runs, and from the end of one on. */
-extern atomic_bool passing;
-/* Written to when a thread ends, or a file could not be written with --strict. */
-extern int ended_event;
-extern atomic_bool fed, strict_failed;
-
-/* norm-bridge.c */
-void raise_event(int event);
+/* norm-bridge.c: `fail` ends the program; `end_bridge` has the main thread end it, and prints the first reason. */
+#define fail(status, ...) (say(__VA_ARGS__), exit(status))
+#define end_bridge(status, ...) (is_first_end(status) ? say(__VA_ARGS__) : (void)0)
+enum { STARTING, PASSING, STOPPING };
+extern atomic_uint state, ready, ended, written;
+extern int stop_event;
 void say(const char *form, ...) __attribute__((format(printf, 1, 2)));
-void fail(int status, const char *form, ...) __attribute__((format(printf, 2, 3), noreturn));
+bool is_first_end(int status), is_ending(void);
+void raise_event(void);
+void wait_once(void);
+uint64_t now_of(clockid_t clock);
 
-/* words.c */
+/* words.c: the words that engines are opened with have one space between each two. */
+extern char *engine_words;
+extern size_t engine_length;
 void read_words(int count, char **words);
-bool trusted(uint32_t address);
+void make_engine_words(void);
 
-/* links.c */
+/* links.c: `set_filters` has the sockets receive nothing, or those of each worker the frames of its hosts. */
 void open_sides(void);
 void warn_of_sides(void);
-int open_socket(const struct side *to);
+void set_filters(bool receive);
 bool link_exists(const struct side *side);
 
-/* frames.c */
-extern int feed_event;
-extern const uint32_t capture_head[CAPTURE_HEAD / 4];
-uint64_t clock_now(void);
-void clock_begin(void);
-void *feed(void *unused);
-void drain(void);
-void *send_frames(void *norm);
+/* worker.c */
+void *work(void *worker);
 
-/* report.c */
-void *read_report(void *norm);
-void print_counts(bool in_place, bool since_start);
-
-/* keep.c */
-void keep_begin(struct norm *norm);
-void keep_octets(struct norm *norm, int which, const void *octets, size_t length);
-void keep_end(struct norm *norm);
-
-/* run.c */
-bool start_norm(struct norm *norm);
-void kill_norm(struct norm *norm);
-int end_norm(struct norm *norm, bool wanted, bool *again);
-void resolve_norm(void);
-void drop_privileges(void);
+/* keep.c: a frame that was judged; the end of a pass, which returns whether nothing is left; the end of an engine. */
+void keep(struct worker *w, const struct taken *read);
+bool keep_pass(struct worker *w);
+void keep_end(struct worker *w, bool renewed);
+void open_kept(void);
+void *write_kept(void *unused);
 #endif

@@ -1,9 +1,11 @@
-/* The words of the command line. */
+/* The words of the command line, and those that engines are opened with. */
 #include "norm-bridge.h"
+#include <errno.h>
 #include <stdio.h>
-#include <stdlib.h>
 #include <string.h>
+#include <sys/random.h>
 
+enum { LEAST_MTU = 576, GREATEST_MTU = 65535 };
 static const char help[] =
     "Passes the IPv4 frames of two interfaces through norm, and ARP past it. Nothing else crosses.\n"
     "\n"
@@ -13,111 +15,73 @@ static const char help[] =
     "PREFIX            the addresses of the protected hosts, as 10.0.0.0/8, 1 to 16 times\n"
     "NORM-OPTION       options of `norm run`, but --both and --inside\n"
     "\n"
-    "  --norm PATH      the program norm; default: norm of the path\n"
-    "  --user NAME      the user that the bridge and norm run as; default for root: nobody\n"
-    "  --restart        start norm again after a signal or `stop many`, at most once a second\n"
-    "  --jobs N         1 to 64, default 1: runs of norm, each for a part of the hosts inside\n"
+    "  --user NAME      the user that the bridge runs as; default for root: nobody\n"
+    "  --jobs N         1 to 64, default 1: engines, each for a part of the hosts inside\n"
     "  --report FILE    keep norm's report\n"
     "  --keep FOLDER    keep IN, OUT and report of each run, in files of at most an hour\n"
-    "  --rotate SIZE    64K to 1024G: begin a new file at this size\n"
+    "  --rotate SIZE    64K to 1024G: begin new files at this size\n"
     "  --strict         end with 1 if a file cannot be written; default: go on without it\n"
     "  --every SECONDS  1 to 86400: print the counts so often\n"
     "  --without-norm   pass frames without norm, to measure\n"
     "  --help, -h       print this text\n"
     "  --version        print the version\n"
     "\n"
-    "It runs in the foreground. SIGINT and SIGTERM end it with 0 after all frames that norm has are\n"
-    "sent; SIGUSR1 prints the counts. Status: 1 if norm or an interface failed, 2 if words are wrong.\n"
-    "If norm ends, nothing passes any more. norm-bridge(8) has the rest.\n";
+    "SIGINT and SIGTERM end it with 0, and then nothing passes any more; SIGUSR1 prints the counts.\n"
+    "Status: 1 if an engine, an interface or a file failed, 2 if words are wrong. norm-bridge(8) has the rest.\n";
 
-struct option {
+static struct option {
     const char *name;
     const char **text;
     bool *flag;
     uint64_t *number, least, most;
-    bool given;
+    bool units, given;
+} table[] = {
+    {"--user", .text = &options.user},
+    {"--jobs", .number = &options.jobs, .least = 1, .most = JOBS},
+    {"--report", .text = &options.report},
+    {"--keep", .text = &options.keep},
+    {"--rotate", .number = &options.rotate, .least = 1 << 16, .most = UINT64_C(1) << 40, .units = true},
+    {"--strict", .flag = &options.strict},
+    {"--every", .number = &options.every, .least = 1, .most = 86400},
+    {"--without-norm", .flag = &options.without_norm},
 };
 
-static const char *rotate_word;
-static struct option table[] = {
-    {"--norm", &options.norm, NULL, NULL, 0, 0, false},
-    {"--user", &options.user, NULL, NULL, 0, 0, false},
-    {"--report", &options.report, NULL, NULL, 0, 0, false},
-    {"--keep", &options.keep, NULL, NULL, 0, 0, false},
-    {"--rotate", &rotate_word, NULL, NULL, 0, 0, false},
-    {"--restart", NULL, &options.restart, NULL, 0, 0, false},
-    {"--strict", NULL, &options.strict, NULL, 0, 0, false},
-    {"--without-norm", NULL, &options.without_norm, NULL, 0, 0, false},
-    {"--every", NULL, NULL, &options.every, 1, 86400, false},
-    {"--jobs", NULL, NULL, &options.jobs, 1, JOBS, false},
-};
+/* Tables that the engines share out: the default and the least number that norm takes. */
+enum { TABLES = 4 };
+static const char *const tables[TABLES] = {"--flows", "--cells", "--frags", "--frag-cells"};
+static const uint64_t usual[TABLES] = {4096, 65536, 256, 4096}, least[TABLES] = {1, 1, 1, 256};
 
-bool trusted(uint32_t address) {
-    for (int i = 0; i < options.prefix_count; i++)
-        if ((address & options.prefixes[i].mask) == options.prefixes[i].net) return true;
-    return false;
-}
+static char **prefixes, **norm_words;
+static int prefix_count, norm_count;
+char *engine_words;
+size_t engine_length;
 
-/* Reads up to 15 digits at `word`, and returns where they end; NULL if there are none. */
-static const char *read_number(const char *word, uint64_t *value) {
+/* Reads a number of 1 to 15 digits, with K, M or G for powers of 1024 where that has a unit. */
+static bool read_number(const struct option *option, const char *word) {
     size_t digits = strspn(word, "0123456789");
-    if (digits == 0 || digits > 15) return NULL;
-    *value = strtoull(word, NULL, 10);
-    return word + digits;
+    const char *unit = option->units && word[digits] ? strchr("KMG", word[digits]) : NULL;
+    uint64_t value = digits > 0 && digits <= 15 ? strtoull(word, NULL, 10) : 0;
+    if (unit && value < 1 << 30) value <<= *unit == 'K' ? 10 : *unit == 'M' ? 20 : 30, digits++;
+    *option->number = value;
+    return word[digits] == 0 && value >= option->least && value <= option->most;
 }
 
-/* Reads PREFIX as norm does: four numbers of 1 to 3 digits, and a length of 1 or 2 digits. */
-static bool read_prefix(const char *word, struct prefix *prefix) {
-    unsigned a, b, c, d, length;
-    int end = 0;
-    if (strspn(word, "0123456789./") != strlen(word)) return false;
-    if (sscanf(word, "%3u.%3u.%3u.%3u/%2u%n", &a, &b, &c, &d, &length, &end) != 5) return false;
-    if (word[end] != 0 || a > 255 || b > 255 || c > 255 || d > 255 || length > 32) return false;
-    prefix->mask = length == 0 ? 0 : UINT32_MAX << (32 - length);
-    prefix->net = (a << 24 | b << 16 | c << 8 | d) & prefix->mask;
-    return true;
-}
-
-static void read_size(void) {
-    uint64_t size = 0;
-    const char *end = rotate_word ? read_number(rotate_word, &size) : "";
-    const char *units = end && *end ? strchr("KMG", *end) : NULL;
-    if (!rotate_word) return;
-    if (units && size < UINT64_C(1) << 31) size <<= *units == 'K' ? 10 : *units == 'M' ? 20 : 30, end++;
-    if (!end || *end || size < 1 << 16 || size > UINT64_C(1) << 40)
-        fail(2, "--rotate %s: from 64K to 1024G", rotate_word);
-    options.rotate = size;
-}
-
-/* Takes the value of an option: what follows `=`, or the next word. Returns the words it took. */
-static int take_value(struct option *option, char **words, int left, const char *equals) {
-    const char *value = equals ? equals + 1 : left > 1 ? words[1] : NULL;
-    if (option->flag) {
-        if (equals) fail(2, "%s takes no value", option->name);
-        *option->flag = true;
-        return 1;
-    }
-    if (!value || !*value) fail(2, "%s wants a value", option->name);
-    if (option->text) {
-        *option->text = value;
-    } else {
-        const char *end = read_number(value, option->number);
-        if (!end || *end || *option->number < option->least || *option->number > option->most)
-            fail(2, "%s %s: from %ju to %ju", option->name, value, (uintmax_t)option->least, (uintmax_t)option->most);
-    }
-    return equals ? 1 : 2;
-}
-
+/* Takes an option, whose value follows `=` or is the next word. Returns the words that it took. */
 static int take_option(char **words, int left) {
-    const char *equals = strchr(words[0], '=');
-    size_t length = equals ? (size_t)(equals - words[0]) : strlen(words[0]);
-    for (size_t i = 0; i < sizeof table / sizeof *table; i++) {
-        if (strlen(table[i].name) != length || strncmp(table[i].name, words[0], length) != 0) continue;
-        if (table[i].given) fail(2, "%s is given twice", table[i].name);
-        table[i].given = true;
-        return take_value(&table[i], words, left, equals);
-    }
-    fail(2, "%s: no such option; norm-bridge --help lists them", words[0]);
+    size_t length = strcspn(words[0], "=");
+    const char *value = words[0][length] ? words[0] + length + 1 : left > 1 ? words[1] : "";
+    struct option *option = table, *past = table + sizeof table / sizeof *table;
+    while (option < past && (strncmp(option->name, words[0], length) != 0 || option->name[length])) option++;
+    if (option == past) fail(2, "%s: no such option; norm-bridge --help lists them", words[0]);
+    if (option->given) fail(2, "%s is given twice", option->name);
+    if (option->flag && words[0][length]) fail(2, "%s takes no value", option->name);
+    if (!option->flag && !*value) fail(2, "%s wants a value", option->name);
+    if (option->number && !read_number(option, value))
+        fail(2, "%s %s: from %ju to %ju", option->name, value, (uintmax_t)option->least, (uintmax_t)option->most);
+    if (option->text) *option->text = value;
+    if (option->flag) *option->flag = true;
+    option->given = true;
+    return option->flag || words[0][length] ? 1 : 2;
 }
 
 static bool is_option(const char *word, const char *name) {
@@ -125,39 +89,74 @@ static bool is_option(const char *word, const char *name) {
     return strncmp(word, name, length) == 0 && (word[length] == 0 || word[length] == '=');
 }
 
-/* Keeps the words after `--`, but not those that give the side, or a second engine. */
-static void take_norm_words(char **words, int count) {
-    if (count > NORM_WORDS - 20 - PREFIXES) fail(2, "too many words after --");
-    for (int i = 0; i < count; i++) {
-        if (is_option(words[i], "--both") || is_option(words[i], "--inside"))
-            fail(2, "%s is not for a bridge: the interfaces and prefixes give the sides", words[i]);
-        options.norm_words[options.norm_count++] = words[i];
+void read_words(int count, char **words) {
+    int at = 1, end = 1;
+    bool helps = count == 2 && (strcmp(words[1], "--help") == 0 || strcmp(words[1], "-h") == 0);
+    if (helps || (count == 2 && strcmp(words[1], "--version") == 0)) {
+        printf("%s%s", helps ? help : "norm-bridge ", helps ? "" : VERSION "\n");
+        exit(fflush(stdout) == 0 ? 0 : 1);
     }
+    while (end < count && strcmp(words[end], "--") != 0) end++;
+    norm_words = words + end + 1;
+    norm_count = end < count ? count - end - 1 : 0;
+    for (int i = 0; i < norm_count; i++) {
+        if (is_option(norm_words[i], "--both") || is_option(norm_words[i], "--inside"))
+            fail(2, "%s is not for a bridge: the interfaces and prefixes give the sides", norm_words[i]);
+        if (!*norm_words[i] || strpbrk(norm_words[i], " \t\n\v\f\r"))
+            fail(2, "a word after -- is empty or has a space");
+    }
+    while (at < end && words[at][0] == '-') at += take_option(words + at, end - at);
+    if (end - at < 3) fail(2, "usage: norm-bridge [OPTION..] OUTSIDE INSIDE PREFIX.. [-- NORM-OPTION..]");
+    sides[NORM_OUTSIDE].name = words[at];
+    sides[NORM_INSIDE].name = words[at + 1];
+    prefixes = words + at + 2;
+    prefix_count = end - at - 2;
+    if (options.without_norm && (options.report || options.keep || norm_count > 0))
+        fail(2, "--without-norm goes with no option of norm, --report or --keep");
 }
 
-void read_words(int count, char **words) {
-    int at = 1, last = count, end;
-    if (count == 2 && (strcmp(words[1], "--help") == 0 || strcmp(words[1], "-h") == 0)) {
-        fputs(help, stdout);
-        exit(fflush(stdout) == 0 ? 0 : 1);
+/* Returns the value that the words after `--` give an option; NULL if they do not name it. */
+static const char *norm_value(const char *option) {
+    for (int i = 0; i < norm_count; i++) {
+        if (!is_option(norm_words[i], option)) continue;
+        const char *equals = strchr(norm_words[i], '=');
+        return equals ? equals + 1 : i + 1 < norm_count ? norm_words[i + 1] : "";
     }
-    if (count == 2 && strcmp(words[1], "--version") == 0) {
-        printf("norm-bridge %s\n", VERSION);
-        exit(fflush(stdout) == 0 ? 0 : 1);
+    return NULL;
+}
+
+/* Adds an engine's share of a table, and at least what norm takes. What norm refuses is left for it to refuse. */
+static void add_share(FILE *text, int t) {
+    const char *given = norm_value(tables[t]);
+    uint64_t all = given ? strtoull(given, NULL, 10) : usual[t], share = all / options.jobs;
+    if (given && (strspn(given, "0123456789") != strlen(given) || all < least[t])) share = 0;
+    else if (share < least[t]) share = least[t];
+    fprintf(text, " %s=%ju", tables[t], (uintmax_t)share);
+}
+
+/* Makes the words of the engines, which are the same for all. The interfaces are open. */
+void make_engine_words(void) {
+    FILE *text = open_memstream(&engine_words, &engine_length);
+    unsigned mtu = sides[0].mtu < sides[1].mtu ? sides[0].mtu : sides[1].mtu;
+    const char *given = norm_value("--mtu");
+    uint64_t seed = 0;
+    if (!text) fail(1, "memory could not be allocated");
+    if (mtu < LEAST_MTU) fail(2, "an MTU of %u: norm needs %d", mtu, LEAST_MTU);
+    if (given && strtoull(given, NULL, 10) > mtu) fail(2, "--mtu %s: the interfaces have %u", given, mtu);
+    fputs("run", text);
+    for (int i = 0; i < norm_count; i++) {
+        bool shared = false;
+        for (int t = 0; t < TABLES && options.jobs > 1; t++) shared = shared || is_option(norm_words[i], tables[t]);
+        if (!shared) fprintf(text, " %s", norm_words[i]);
+        else if (!strchr(norm_words[i], '=')) i++;
     }
-    for (end = 1; end < count && strcmp(words[end], "--") != 0; end++) {}
-    if (end < count) take_norm_words(words + end + 1, count - end - 1), last = end;
-    while (at < last && words[at][0] == '-') at += take_option(words + at, last - at);
-    read_size();
-    if (last - at < 3) fail(2, "usage: norm-bridge [OPTION..] OUTSIDE INSIDE PREFIX.. [-- NORM-OPTION..]");
-    sides[OUTSIDE].name = words[at];
-    sides[INSIDE].name = words[at + 1];
-    options.prefix_words = words + at + 2;
-    options.prefix_count = last - at - 2;
-    if (options.prefix_count > PREFIXES) fail(2, "over %d prefixes", PREFIXES);
-    for (int i = 0; i < options.prefix_count; i++)
-        if (!read_prefix(options.prefix_words[i], &options.prefixes[i]))
-            fail(2, "%s: no prefix, as 10.0.0.0/8", options.prefix_words[i]);
-    if (options.without_norm && (options.report || options.keep || options.restart || options.norm_count > 0))
-        fail(2, "--without-norm goes with no option of norm, --report, --keep or --restart");
+    for (int t = 0; t < TABLES && options.jobs > 1; t++) add_share(text, t);
+    if (!given) fprintf(text, " --mtu=%u", mtu < GREATEST_MTU ? mtu : GREATEST_MTU);
+    if (!norm_value("--seed")) {
+        if (getrandom(&seed, sizeof seed, 0) != sizeof seed) fail(1, "getrandom: %s", strerror(errno));
+        fprintf(text, " --seed=%ju", (uintmax_t)seed);
+    }
+    fputs(" in out", text);
+    for (int i = 0; i < prefix_count; i++) fprintf(text, " %s", prefixes[i]);
+    fclose(text);
 }
