@@ -7,7 +7,7 @@ import re
 import signal
 import subprocess
 import time
-from contextlib import closing, contextmanager
+from contextlib import closing
 
 from live.fates import datagram, kinds
 from live.kept import captured
@@ -15,7 +15,7 @@ from live.network import INNER, OUTER
 from lib.network import INSIDE, OUTSIDE
 from lib.talk import PATIENCE
 from live.parts import ended, part, require, sums_of_norm
-from live.program import reported, total
+from live.program import COUNTS, reported, total
 from live.raw import caught, ethernet, frames_of
 from live.traffic import talking, web
 
@@ -62,11 +62,13 @@ def signals(trial):
     """With its standard descriptors closed, too: what it says goes into no frame."""
     line = trial.line
     for one in (signal.SIGINT, signal.SIGTERM):
-        with trial.bridge() as bridge:
+        with trial.bridge("--every", "1") as bridge:
             bridge.process.send_signal(signal.SIGHUP)
             bridge.process.send_signal(signal.SIGPIPE)
             bridge.counts()
             require(line.answers(PATIENCE), "after SIGHUP and SIGPIPE nothing passes")
+            time.sleep(2.5)
+            require(2 < len(COUNTS.findall(bridge.words())) < 7, "it does not print its counts each second")
             bridge.process.send_signal(one)
             status = bridge.ended(PATIENCE)
             require(status == 0, "%s: it ends with %s" % (one.name, status))
@@ -82,54 +84,84 @@ def signals(trial):
     return "SIGINT and SIGTERM end it with 0 and its counts, SIGUSR1 prints them, SIGHUP and SIGPIPE do not end it"
 
 
-@contextmanager
-def slow_writer(bridge, seconds):
-    """The thread that writes files takes this long for each call: the others are those of the
-    engines, which have sockets to poll."""
-    words = ["strace", "-f", "-qq", "-o", "/dev/null", "-e", "trace=write,writev,pwrite64,fdatasync", "-e",
-             "inject=write,writev,pwrite64:delay_enter=%d" % (seconds * 10**6), "-p", str(bridge.process.pid)]
-    tracer = subprocess.Popen(words, stderr=subprocess.PIPE, text=True)
-    deadline = time.monotonic() + PATIENCE
-    while time.monotonic() < deadline and not all(map(is_traced, bridge.of_process("task/*/status"))):
-        time.sleep(0.02)
-    try:
-        yield
-    finally:
-        tracer.terminate()
-        tracer.wait(PATIENCE)
+# Takes the place of write(2): a file is not written to as long as another one exists.
+SLOW = r"""
+#define _GNU_SOURCE
+#include <stdlib.h>
+#include <sys/stat.h>
+#include <sys/syscall.h>
+#include <unistd.h>
+ssize_t write(int fd, const void *octets, size_t count) {
+    struct stat about;
+    while (fd > 2 && fstat(fd, &about) == 0 && S_ISREG(about.st_mode) && access(getenv("SLOW"), F_OK) == 0)
+        usleep(10000);
+    return syscall(SYS_write, fd, octets, count);
+}
+"""
 
 
-def is_traced(path):
-    with open(path, encoding="ascii") as file:
-        return re.search(r"(?m)^TracerPid:\t[1-9]", file.read()) is not None
+class Disk:
+    """A disk that takes nothing while this goes on; `words` begin a bridge that writes to it."""
+
+    def __init__(self, folder):
+        self.path, library = os.path.join(folder, "slow"), os.path.join(folder, "slow.so")
+        subprocess.run(["cc", "-shared", "-fPIC", "-x", "c", "-o", library, "-"], input=SLOW, text=True, check=True)
+        self.words = ("env", "LD_PRELOAD=" + library, "SLOW=" + self.path)
+
+    def __enter__(self):
+        with open(self.path, "wb"):
+            pass
+
+    def __exit__(self, *_):
+        os.remove(self.path)
 
 
-@part("slow disk", "strace")
+@part("slow disk")
 def slow_disk(trial):
-    """Files lose records, which are counted, and the link none; a second signal ends it at once."""
+    """Files lose records, which are counted, and the link none. Later records are kept again."""
     line, count = trial.line, 30000
     frame = ethernet(line, "outside", "hosts", datagram(OUTSIDE, INSIDE, bytes(1400)))
-    with trial.place() as folder, trial.bridge("--keep", folder) as bridge:
-        with slow_writer(bridge, 3), frames_of(line, "outside", protocol=0) as sender:
-            begun, before = time.monotonic(), bridge.line.statistics()[INNER, "tx_packets"]
-            for number in range(count):
-                sender.send(frame)
-                if number % 50 == 0:
-                    time.sleep(0.002)
-            time.sleep(0.5)
-            passed = bridge.line.statistics()[INNER, "tx_packets"] - before
-            require(line.answers(1), "while the disk is slow nothing passes")
-        time.sleep(1)
-        for _ in range(100):
-            line.answers(1)
-        counts = ended(bridge)
-        kept = sum(len(captured(os.path.join(folder, name))) for name in os.listdir(folder) if name.startswith("in-"))
-        names = sorted(os.listdir(folder))
+    with trial.place() as place, trial.place() as folder:
+        disk = Disk(place)
+        with trial.bridge("--keep", folder, before=disk.words) as bridge:
+            with disk, frames_of(line, "outside", protocol=0) as sender:
+                before = line.statistics()[INNER, "tx_packets"]
+                for number in range(count):
+                    sender.send(frame)
+                    if number % 50 == 0:
+                        time.sleep(0.002)
+                time.sleep(0.5)
+                passed = line.statistics()[INNER, "tx_packets"] - before
+                require(line.answers(1), "while the disk is slow nothing passes")
+            time.sleep(1)
+            mark = ethernet(line, "outside", "hosts", datagram(OUTSIDE, INSIDE, b"kept again"))
+            with frames_of(line, "outside", protocol=0) as sender:
+                sender.send(mark)
+            counts = ended(bridge)
+        files = {name: captured(os.path.join(folder, name)) for name in os.listdir(folder) if name.startswith("in-")}
+    kept = [octets for records in files.values() for _, octets in records]
     require(passed >= 0.9 * count, "while the disk is slow %d frames of %d pass" % (passed, count))
-    require(counts["kept.lost"] > 0, "no record is counted as lost")
-    require(kept < total(counts, "given"), "files have all records, and some are counted as lost")
-    return "%d of %d frames pass, %d records kept of %d, %d lost, in %d files, %.1f s" % (
-        passed, count, kept, total(counts, "given"), counts["kept.lost"], len(names), time.monotonic() - begun)
+    require(counts["kept.lost"] > 0 and mark in kept, "%d records are counted as lost, and later ones are%s kept" % (
+        counts["kept.lost"], "" if mark in kept else " not"))
+    require(len(kept) + counts["kept.lost"] == total(counts, "given"), "%d records are kept, %d lost, of %d" % (
+        len(kept), counts["kept.lost"], total(counts, "given")))
+    require(any("gap" in name for name in files), "no file names the gap: " + " ".join(files))
+    return "%d of %d frames pass, %d records kept of %d, in %d files" % (
+        passed, count, len(kept), total(counts, "given"), len(files))
+
+
+@part("second signal")
+def second_signal(trial):
+    """The first one waits for a disk that takes nothing; the second one does not."""
+    line = trial.line
+    with trial.place() as place:
+        disk = Disk(place)
+        with trial.bridge(before=disk.words) as bridge, disk:
+            line.answers(1)
+            require(bridge.end(0.5) is None, "it does not wait for its files")
+            status = bridge.end(3)
+    require(status == 1, "it ends with %s" % status)
+    return "ends it at once with 1, though its files are not written"
 
 
 @part("bridge killed", "curl")
@@ -203,7 +235,7 @@ def overload(trial):
 @part("links down")
 def links(trial):
     line = trial.line
-    with trial.bridge() as bridge:
+    with trial.bridge(rested=False) as bridge:
         with talking(line, CONNECTIONS, 0.01) as talk:
             for what, host, device in (("an interface of the bridge", "bridge", INNER),
                                        ("the other end of its link", "hosts", "eth0"),
@@ -218,7 +250,9 @@ def links(trial):
                         "%s goes down, and the bridge ends: %s" % (what, bridge.words()[-200:].strip()))
                 require(talk.wait(5 * CONNECTIONS),
                         "%s was down, and the connections do not go on: %s" % (what, talk.fault))
-    return "three of them: %d connections go on" % CONNECTIONS
+        counts = ended(bridge)
+    require(total(counts, "failed") > 0, "no frame is counted as failed")
+    return "three of them: %d connections go on, %d frames failed" % (CONNECTIONS, total(counts, "failed"))
 
 
 @part("interface gone")

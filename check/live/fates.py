@@ -22,9 +22,9 @@ OTHER = {"outside": "hosts", "hosts": "outside"}
 NOBODY, STATION = {"outside": "198.51.100.77", "hosts": "10.77.0.1"}, b"\2\0\0\0\0\1"
 
 
-def datagram(source, target, payload=b"counted"):
+def datagram(source, target, payload=b"counted", **fields):
     here, there = address(source), address(target)
-    return ipv4(here, there, 17, udp(here, there, 7, 9, payload))
+    return ipv4(here, there, 17, udp(here, there, 7, 9, payload), **fields)
 
 
 def arp(host, **fields):
@@ -49,6 +49,9 @@ def kinds(line, host):
     yield "unjudged", frame(b"\x86\xdd", bytes.fromhex("6000000000003b40") + bytes(32))
     yield "unjudged", frame(b"\x81\0", b"\0\7\x08\0" + datagram(here, there))
     yield "unjudged", frame(ARP_TYPE, arp(host, hardware=6))
+    # norm drops the one and changes the other.
+    yield "given", frame(b"\x08\0", datagram(here, there, check=1))
+    yield "given", frame(b"\x08\0", datagram(here, there, ttl=1))
 
 
 @part("counts")
@@ -68,7 +71,8 @@ def counted(trial):
         # The hosts themselves send ARP and are answered.
         right = risen == count if what in ("forged", "unjudged") else risen >= count
         require(right, "%d frames are counted as %s, of %d" % (risen, what, count))
-    return "%d frames of %d kinds: each counted, as the interfaces and the report count them" % (sum(sent.values()), 7)
+    return "%d frames of %d kinds: each counted, as the interfaces and the report count them" % (
+        sum(sent.values()), sum(sent.values()) // 2 // EACH)
 
 
 # ARP of a host: what differs from a plain request, with `here` for an address of its side, and

@@ -7,7 +7,7 @@ import subprocess
 import time
 from contextlib import ExitStack
 
-from live.fates import NOBODY, OTHER, STATION, datagram
+from live.fates import NOBODY, OTHER, STATION, datagram, kinds
 from live.network import INNER, OUTER, PREFIX
 from live.parts import ended, part, require
 from live.program import bridged, captured
@@ -35,11 +35,12 @@ def privileges(trial):
     threads = 0
     for what, before in STARTS.items():
         with trial.place() as folder, trial.bridge("--jobs", "3", "--keep", folder, before=before) as bridge:
+            wanted_of = {**STATUS, "CapBnd": [NONE]} if what == "root" else STATUS
             for path in bridge.of_process("task/*/status"):
                 with open(path, encoding="utf-8") as file:
                     found = {name: words.split() for name, _, words in (line.partition(":") for line in file)}
                 threads += 1
-                for name, wanted in STATUS.items():
+                for name, wanted in wanted_of.items():
                     require(found[name] == wanted, "started by %s: %s is %s" % (what, name, found[name]))
                 require(set(found["Groups"]) <= {NOBODY_ID}, "started by %s: Groups is %s" % (what, found["Groups"]))
             for path in bridge.of_process("mem"):
@@ -83,14 +84,14 @@ def joined(folder, kind):
 
 
 def numbers_in(folder, kind, source):
-    """The numbers of the frames of a side in the files of a kind, each of which is a capture."""
+    """The numbers and times of the frames of a side in the files of a kind, each a capture."""
     found = []
     for name in sorted(os.listdir(folder)):
         if name.startswith(kind + "-"):
-            for octets in captured(os.path.join(folder, name)):
+            for time, octets in captured(os.path.join(folder, name)):
                 number = re.search(rb"paced (\d{5})", octets)
                 if number and octets[26:30] == bytes(map(int, source.split("."))):
-                    found.append(int(number[1]))
+                    found.append((int(number[1]), time))
     return found
 
 
@@ -98,15 +99,17 @@ def numbers_in(folder, kind, source):
 def kept(trial):
     line = trial.line
     with trial.place() as folder, trial.bridge("--keep", folder, "--rotate", "64K") as bridge:
-        before = len(bridge.of_process("fd/*"))
+        before, begun = len(bridge.of_process("fd/*")), time.time()
         paced(line)
         time.sleep(0.2)
         after = len(bridge.of_process("fd/*"))
         ended(bridge)
         for kind in ("in", "out"):
             for host in OTHER:
-                require(numbers_in(folder, kind, NOBODY[host]) == list(range(COUNT)),
-                        "the files of %s do not have the frames from the %s" % (kind, host))
+                numbers, times = zip(*numbers_in(folder, kind, NOBODY[host]))
+                require(numbers == tuple(range(COUNT)), "the files of %s lack frames from the %s" % (kind, host))
+                require(begun - 1 < times[0] < times[-1] < time.time() + 1 and len(set(times)) == COUNT
+                        and list(times) == sorted(times), "the times of the frames from the %s in %s" % (host, kind))
         sizes, counts = joined(folder, "in")[1], {}
         for kind in ("in", "out", "report"):
             counts[kind] = len(joined(folder, kind)[1])
@@ -129,6 +132,7 @@ def old_reports(trial):
         for name in (path, aside):
             with open(name, "w", encoding="ascii") as file:
                 file.write("old\n")
+            os.chmod(name, 0o666)
         for _ in range(2):
             with bridged(line, program, folder, ["--report", path]) as bridge:
                 require(bridge.end() == 0, "it ends: " + bridge.words()[-200:])
@@ -151,6 +155,10 @@ def audited(trial):
         require(fault is None and talk.wait(100), "the transfer: %s; %s" % (fault, talk.fault))
         ping(line, "outside", 20)
         paced(line)
+        for host in OTHER:
+            with frames_of(line, host, protocol=0) as sender:
+                for _, frame in kinds(line, host):
+                    sender.send(frame)
         talk.ended.set()
         talk.thread.join()
         ended(bridge)

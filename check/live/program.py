@@ -140,12 +140,12 @@ def bridged(line, program, folder, options=(), after=(), before=()):
 
 
 def captured(path):
-    """The octets of each record of a capture; it has a head, and ends after a whole record."""
+    """The time and the octets of each record of a capture, which ends after a whole record."""
     with open(path, "rb") as file:
         head, records, fault, at = read_input(file.read(), None)
     if head is None or fault != "end":
         raise OSError("%s is cut at %d" % (os.path.basename(path), at))
-    return [record.octets for record in records]
+    return [(record.seconds + record.fraction / 10**9, record.octets) for record in records]
 
 
 def reported(folder):

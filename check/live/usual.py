@@ -5,7 +5,7 @@ import os
 import re
 import time
 
-from live.network import INNER, PREFIX
+from live.network import INNER, OUTER, PREFIX
 from live.fates import NOBODY, OTHER, datagram
 from live.parts import ended, part, require, shown
 from live.program import bridged, total
@@ -22,6 +22,10 @@ HOSTS = ["10.0.1.%d" % number for number in range(1, 31)]
 def pings(trial):
     line = trial.line
     with trial.bridge() as bridge:
+        for device in (OUTER, INNER):
+            # A card has to take frames for other stations.
+            said = line.run("bridge", "ip", "-d", "link", "show", device).stdout
+            require(b" promiscuity 1" in said, "%s is not promiscuous" % device)
         for host in ("outside", "hosts"):
             line.ip(host, "neighbour", "flush", "all")
         found = {(host, length): ping(line, host, 20, length) for host in ("outside", "hosts") for length in (56, 1472)}
@@ -89,7 +93,7 @@ def with_jobs(trial, jobs):
                 words = ["ping", "-n", "-q", "-c", "1", "-W", "5", "-s", "1200", "-M", "dont", target]
                 words += ["-I", host] if source == "hosts" else []
                 done = line.run(source, *words, check=False)
-                require(done.returncode == 0, "%s gets no answer of %s" % (source, host))
+                require(done.returncode == 0, "no answer of %s to the %s: %s" % (target, source, shown(bridge.counts())))
         with web(line, "outside", trial.folder, OCTETS // 4) as server:
             fault = server.fault(server.begin(60))
             require(fault is None, "the transfer: %s" % fault)
