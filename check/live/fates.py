@@ -167,6 +167,7 @@ def merged(trial):
                     line.run(host, "ethtool", "-K", device, one, "off", check=False)
         ended(bridge)
         warned = [one for one in bridge.words().splitlines() if "ethtool" in one and "gro" in one]
-    require(counts["outside.truncated"] == EACH, "%d of %d are counted as truncated" % (counts["outside.truncated"], EACH))
+    cut = counts["outside.truncated"]
+    require(cut == EACH, "%d of %d are counted as truncated" % (cut, EACH))
     require(len(warned) == 1, "%d lines warn of it" % len(warned))
     return "%d frames of %d octets: counted, warned of once" % (EACH, len(frame))

@@ -214,8 +214,8 @@ KINDS = {"short": 30, "quiet": 30, "fetch": 4, "store": 4, "half": 10, "reset": 
 
 LONG = (1, 1448, 1449, 100000, 500000)
 
-SIZES = {"short": (4, 100, 1000, 5000), "quiet": (4, 100, 1000), "fetch": LONG, "store": LONG, "half": (0, 1, 3000, 30000),
-         "reset": (1, 1000), "udp": (1, 100, 1000, 1472), "pieces": (900, 1000, 1400)}
+SIZES = {"short": (4, 100, 1000, 5000), "quiet": (4, 100, 1000), "fetch": LONG, "store": LONG,
+         "half": (0, 1, 3000, 30000), "reset": (1, 1000), "udp": (1, 100, 1000, 1472), "pieces": (900, 1000, 1400)}
 
 
 async def run(name, count, seconds, seed):

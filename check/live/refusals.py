@@ -61,7 +61,7 @@ def invalid_arguments(trial):
         if ":" in address and not os.path.exists("/proc/sys/net/ipv6"):
             skip("IPv6 in the kernel", "an interface with an IPv6 address")
             continue
-        line.set("bridge", "ipv6/conf/%s/disable_ipv6" % INNER, 0)
+        line.set("bridge", "ipv6/conf/%s/disable_ipv6" % INNER, int(":" not in address))
         line.ip("bridge", "address", "add", address, "dev", INNER)
         wrong.append(refusal(trial, usual))
         line.set("bridge", "ipv6/conf/%s/disable_ipv6" % INNER, 1)

@@ -93,7 +93,8 @@ def with_jobs(trial, jobs):
                 words = ["ping", "-n", "-q", "-c", "1", "-W", "5", "-s", "1200", "-M", "dont", target]
                 words += ["-I", host] if source == "hosts" else []
                 done = line.run(source, *words, check=False)
-                require(done.returncode == 0, "no answer of %s to the %s: %s" % (target, source, shown(bridge.counts())))
+                require(done.returncode == 0,
+                        "no answer of %s to the %s: %s" % (target, source, shown(bridge.counts())))
         with web(line, "outside", trial.folder, OCTETS // 4) as server:
             fault = server.fault(server.begin(60))
             require(fault is None, "the transfer: %s" % fault)
