@@ -77,8 +77,9 @@ def base(bridge, seconds=5):
     """What the interfaces and the bridge have counted at rest: an interface counts also what
     arrives before it is read. None if there is no rest."""
     while (before := rest(bridge.line, seconds)) is not None:
-        counts = bridge.counts()
-        if bridge.line.statistics() == before:
+        earlier, counts = bridge.counts(), bridge.counts()
+        is_read = total(earlier, "received") == total(counts, "received")
+        if is_read and bridge.line.statistics() == before:
             return before, counts
     return None
 
