@@ -1,24 +1,30 @@
-"""Parts of check/live/bridge: norm is killed or stopped, the bridge starts in mid-connection, links
-go down, a disk is full."""
+"""Parts of check/live/bridge: it is ended, killed or stopped, it starts in mid-connection, links go
+down, an interface vanishes, a disk is full or slow."""
 
+import glob
 import os
+import re
 import signal
+import subprocess
 import time
 from contextlib import closing
 
+from live.fates import datagram, kinds
+from live.kept import captured
 from live.network import INNER, OUTER
-from lib.outcome import Fault
+from lib.network import INSIDE, OUTSIDE
 from lib.talk import PATIENCE
-from live.parts import ended, part, require, rest, sums_of_norm
-from live.program import report_end
-from live.raw import frames_of
+from live.parts import ended, part, require, sums_of_norm
+from live.program import COUNTS, reported, total
+from live.raw import caught, ethernet, frames_of
 from live.traffic import talking, web
-from live.usual import kinds
 
 # A transfer of this size at this rate lasts three seconds.
 OCTETS, RATE = 30 * 10**6, "10M"
 
 CONNECTIONS = 20
+
+HOSTS = ("outside", "hosts")
 
 
 class Some:
@@ -27,8 +33,7 @@ class Some:
     def __init__(self, line):
         self.line = line
         self.frames = [(frames_of(line, host, protocol=0),
-                        [frame for name, frame in kinds(line, host) if name in ("given", "arp")])
-                       for host in ("outside", "hosts")]
+                        [frame for name, frame in kinds(line, host) if name in ("given", "arp")]) for host in HOSTS]
 
     def passed(self, seconds):
         """Sends them, and returns how many frames the bridge sends in this time."""
@@ -52,62 +57,126 @@ def nothing_passes(line, what):
     require(passed == 0, "%s, %d frames pass" % (what, passed))
 
 
-@part("norm killed", "curl")
+@part("signals")
+def signals(trial):
+    """With its standard descriptors closed, too: what it says goes into no frame."""
+    line = trial.line
+    for one in (signal.SIGINT, signal.SIGTERM):
+        with trial.bridge("--every", "1") as bridge:
+            bridge.process.send_signal(signal.SIGHUP)
+            bridge.process.send_signal(signal.SIGPIPE)
+            bridge.counts()
+            require(line.answers(PATIENCE), "after SIGHUP and SIGPIPE nothing passes")
+            time.sleep(2.5)
+            require(2 < len(COUNTS.findall(bridge.words())) < 7, "it does not print its counts each second")
+            bridge.process.send_signal(one)
+            status = bridge.ended(PATIENCE)
+            require(status == 0, "%s: it ends with %s" % (one.name, status))
+            for fact, what in sums_of_norm(bridge.last_counts(), reported(bridge.folder)):
+                require(fact, what)
+    closed = ("sh", "-c", 'exec "$0" "$@" <&- >&- 2>&-')
+    with trial.bridge("--every", "1", before=closed, rested=False) as bridge:
+        with frames_of(line, "outside") as outside, frames_of(line, "hosts") as hosts:
+            bridge.process.send_signal(signal.SIGUSR1)
+            for taker in (outside, hosts):
+                require(caught(taker, 1.1, lambda frame: b"received" in frame) is None, "a line leaves as a frame")
+        require(bridge.end() == 0, "with closed descriptors it does not end with 0")
+    return "SIGINT and SIGTERM end it with 0 and its counts, SIGUSR1 prints them, SIGHUP and SIGPIPE do not end it"
+
+
+# Takes the place of write(2): a file is not written to as long as another one exists.
+SLOW = r"""
+#define _GNU_SOURCE
+#include <stdlib.h>
+#include <sys/stat.h>
+#include <sys/syscall.h>
+#include <unistd.h>
+ssize_t write(int fd, const void *octets, size_t count) {
+    struct stat about;
+    while (fd > 2 && fstat(fd, &about) == 0 && S_ISREG(about.st_mode) && access(getenv("SLOW"), F_OK) == 0)
+        usleep(10000);
+    return syscall(SYS_write, fd, octets, count);
+}
+"""
+
+
+class Disk:
+    """A disk that takes nothing while this goes on; `words` begin a bridge that writes to it."""
+
+    def __init__(self, folder):
+        self.path, library = os.path.join(folder, "slow"), os.path.join(folder, "slow.so")
+        subprocess.run(["cc", "-shared", "-fPIC", "-x", "c", "-o", library, "-"], input=SLOW, text=True, check=True)
+        self.words = ("env", "LD_PRELOAD=" + library, "SLOW=" + self.path)
+
+    def __enter__(self):
+        with open(self.path, "wb"):
+            pass
+
+    def __exit__(self, *_):
+        os.remove(self.path)
+
+
+@part("slow disk")
+def slow_disk(trial):
+    """Files lose records, which are counted, and the link none. Later records are kept again."""
+    line, count = trial.line, 30000
+    frame = ethernet(line, "outside", "hosts", datagram(OUTSIDE, INSIDE, bytes(1400)))
+    with trial.place() as place, trial.place() as folder:
+        disk = Disk(place)
+        with trial.bridge("--keep", folder, before=disk.words) as bridge:
+            with disk, frames_of(line, "outside", protocol=0) as sender:
+                before = line.statistics()[INNER, "tx_packets"]
+                for number in range(count):
+                    sender.send(frame)
+                    if number % 50 == 0:
+                        time.sleep(0.002)
+                time.sleep(0.5)
+                passed = line.statistics()[INNER, "tx_packets"] - before
+                require(line.answers(1), "while the disk is slow nothing passes")
+            time.sleep(1)
+            mark = ethernet(line, "outside", "hosts", datagram(OUTSIDE, INSIDE, b"kept again"))
+            with frames_of(line, "outside", protocol=0) as sender:
+                sender.send(mark)
+            counts = ended(bridge)
+        files = {name: captured(os.path.join(folder, name)) for name in os.listdir(folder) if name.startswith("in-")}
+    kept = [octets for records in files.values() for _, octets in records]
+    require(passed >= 0.9 * count, "while the disk is slow %d frames of %d pass" % (passed, count))
+    require(counts["kept.lost"] > 0 and mark in kept, "%d records are counted as lost, and later ones are%s kept" % (
+        counts["kept.lost"], "" if mark in kept else " not"))
+    require(len(kept) + counts["kept.lost"] == total(counts, "given"), "%d records are kept, %d lost, of %d" % (
+        len(kept), counts["kept.lost"], total(counts, "given")))
+    require(any("gap" in name for name in files), "no file names the gap: " + " ".join(files))
+    return "%d of %d frames pass, %d records kept of %d, in %d files" % (
+        passed, count, len(kept), total(counts, "given"), len(files))
+
+
+@part("second signal")
+def second_signal(trial):
+    """The first one waits for a disk that takes nothing; the second one does not."""
+    line = trial.line
+    with trial.place() as place:
+        disk = Disk(place)
+        with trial.bridge(before=disk.words) as bridge, disk:
+            line.answers(1)
+            require(bridge.end(0.5) is None, "it does not wait for its files")
+            status = bridge.end(3)
+    require(status == 1, "it ends with %s" % status)
+    return "ends it at once with 1, though its files are not written"
+
+
+@part("bridge killed", "curl")
 def killed(trial):
     line = trial.line
-    with trial.bridge() as bridge, web(line, "outside", trial.folder, OCTETS) as server:
+    with trial.bridge("--jobs", "2") as bridge, web(line, "outside", trial.folder, OCTETS) as server:
         transfer = server.begin(60, RATE)
         time.sleep(0.5)
-        require(transfer.poll() is None, "the transfer has ended before norm was killed")
-        bridge.kill_norm()
-        status = bridge.ended(PATIENCE)
-        require(status == 1, "norm is killed, and the bridge ends with %s and not 1" % status)
+        require(transfer.poll() is None, "the transfer has ended before the bridge was killed")
+        bridge.process.kill()
+        require(bridge.ended(PATIENCE) == -signal.SIGKILL, "it is killed, and does not end")
         line.end(transfer)
-        said = [one for one in bridge.words().splitlines() if "signal" in one.lower() or "killed" in one.lower()]
-        require(len(said) == 1, "%d lines say that norm was killed: %s" % (len(said), bridge.words()[-200:]))
-        nothing_passes(line, "the bridge has ended")
-        require(not line.answers(1), "the bridge has ended, and a ping is answered")
-    return "status 1, one line, and nothing passes"
-
-
-@part("norm restarted", "curl")
-def restarted(trial):
-    line = trial.line
-    with trial.bridge("--restart") as bridge, \
-            web(line, "outside", trial.folder, 2 * OCTETS) as inwards, \
-            web(line, "hosts", trial.folder, 2 * OCTETS) as out:
-        both = [(one, one.begin(60, RATE)) for one in (inwards, out)]
-        time.sleep(0.5)
-        bridge.kill_norm()
-        time.sleep(1.2)
-        require(bridge.await_norm(), "norm is killed, and not started again")
-        require(all(transfer.poll() is None for _, transfer in both),
-                "a transfer has ended before norm was killed again")
-        seconds = down(line, bridge)
-        for one, transfer in both:
-            fault = one.fault(transfer)
-            require(fault is None, "the transfer from the %s: %s" % (one.host, fault))
-        rest(line)
-        status = bridge.end()
-        require(status == 0, "it ends with %s" % status)
-    return "killed twice, nothing passes in %.1f s without norm, then two transfers end with their SHA-256" % seconds
-
-
-def down(line, bridge):
-    """Kills norm until it is not there for a moment, and sends frames then, of which none may
-    pass. Returns how long."""
-    with closing(Some(line)) as some:
-        for _ in range(50):
-            bridge.kill_norm()
-            time.sleep(0.02)
-            if bridge.norms():
-                continue
-            begun = time.monotonic()
-            passed = some.passed(0.1)
-            if not bridge.norms():
-                require(passed == 0, "norm is down, and %d frames pass" % passed)
-                return time.monotonic() - begun
-    raise Fault("norm is never down for 0.1 seconds: it is restarted more often than once a second")
+        nothing_passes(line, "the bridge is killed")
+        require(not line.answers(1), "the bridge is killed, and a ping is answered")
+    return "nothing passes"
 
 
 @part("cold start", "curl")
@@ -120,6 +189,7 @@ def cold(trial):
                 transfer = server.begin(60, RATE)
                 time.sleep(0.3)
                 early(bridge)
+                nothing_passes(line, "the bridge has ended")
                 with trial.bridge(rested=False) as second:
                     require(talker.wait(10 * CONNECTIONS),
                             "the connections do not go on: %s" % (talker.fault or "they are silent"))
@@ -133,34 +203,39 @@ def cold(trial):
 
 
 def early(bridge):
-    """Ends the bridge in mid-transfer: what norm has is sent, and the counts are right."""
+    """Ends the bridge in mid-transfer: frames that it read are sent, and the counts are right."""
     status = bridge.end()
     require(status == 0, "asked to end in a transfer, it ends with %s: %s" % (status, bridge.words()[-200:].strip()))
-    for fact, what in sums_of_norm(bridge.last_counts(), report_end(bridge.folder)):
+    for fact, what in sums_of_norm(bridge.last_counts(), reported(bridge.folder)):
         require(fact, what)
 
 
 @part("overload")
 def overload(trial):
-    """norm stands still while more arrives than there is memory for."""
+    """The bridge stands still while more arrives from both sides than there is memory for."""
     line, count = trial.line, 60000
     with trial.bridge() as bridge:
-        with frames_of(line, "outside", protocol=0) as sender:
-            frame = next(frame for name, frame in kinds(line, "outside") if name == "given")
-            bridge.kill_norm(signal.SIGSTOP)
-            for _ in range(count):
-                sender.send(frame + bytes(1400))
-            bridge.kill_norm(signal.SIGCONT)
-        require(line.answers(PATIENCE), "norm goes on, and nothing passes")
+        before = bridge.counts()
+        bridge.process.send_signal(signal.SIGSTOP)
+        for host in HOSTS:
+            frame = next(frame for name, frame in kinds(line, host) if name == "given")
+            with frames_of(line, host, protocol=0) as sender:
+                for _ in range(count):
+                    sender.send(frame + bytes(1400))
+        bridge.process.send_signal(signal.SIGCONT)
+        require(line.answers(PATIENCE), "the bridge goes on, and nothing passes")
         counts = ended(bridge)
-    return ("norm stopped while %d frames of %d octets arrive: %d dropped by the kernel, and each counted"
-            % (count, len(frame) + 1400, counts["outside.kernel"]))
+    dropped = [counts[side + ".kernel"] - before[side + ".kernel"] for side in ("outside", "inside")]
+    require(all(dropped), "it is stopped while %d frames arrive from each side, and counts %s as dropped" % (
+        count, dropped))
+    return ("stopped while %d frames of %d octets arrive from each side: %d and %d dropped by the kernel, and each "
+            "counted" % (count, len(frame) + 1400, *dropped))
 
 
 @part("links down")
 def links(trial):
     line = trial.line
-    with trial.bridge() as bridge:
+    with trial.bridge(rested=False) as bridge:
         with talking(line, CONNECTIONS, 0.01) as talk:
             for what, host, device in (("an interface of the bridge", "bridge", INNER),
                                        ("the other end of its link", "hosts", "eth0"),
@@ -175,13 +250,26 @@ def links(trial):
                         "%s goes down, and the bridge ends: %s" % (what, bridge.words()[-200:].strip()))
                 require(talk.wait(5 * CONNECTIONS),
                         "%s was down, and the connections do not go on: %s" % (what, talk.fault))
-        try:
-            line.ip("bridge", "link", "del", OUTER)
-            status = bridge.ended(PATIENCE)
-        finally:
-            line.join_outside()
-        require(status == 1, "an interface vanishes, and the bridge ends with %s and not 1" % status)
-    return "three of them: %d connections go on; an interface that vanishes: status 1" % CONNECTIONS
+        counts = ended(bridge)
+    require(total(counts, "failed") > 0, "no frame is counted as failed")
+    return "three of them: %d connections go on, %d frames failed" % (CONNECTIONS, total(counts, "failed"))
+
+
+@part("interface gone")
+def gone(trial):
+    line = trial.line
+    for device, join in ((OUTER, line.join_outside), (INNER, line.join_hosts)):
+        with trial.bridge("--jobs", "2") as bridge:
+            try:
+                line.ip("bridge", "link", "del", device)
+                status = bridge.ended(PATIENCE)
+            finally:
+                join()
+            said = [one for one in bridge.words().splitlines() if re.search(r"\b%s\b.*\bgone\b" % device, one)]
+            require(status == 1, "%s vanishes, and the bridge ends with %s and not 1" % (device, status))
+            require(len(said) == 1, "%s vanishes, and %d lines say so: %s" % (
+                device, len(said), bridge.words()[-200:].strip()))
+    return "either interface: status 1, and one line"
 
 
 @part("full disk", "curl")
@@ -192,11 +280,14 @@ def full(trial):
         with trial.bridge("--keep", folder, before=mounted) as bridge:
             fault = server.fault(server.begin(60))
             require(fault is None, "the transfer: %s" % fault)
-            kept = os.listdir("/proc/%d/root%s" % (bridge.process.pid, folder))
+            kept = glob.glob("/proc/%d/root%s/*" % (bridge.process.pid, folder))
             require(kept, "nothing was kept")
+            for path in kept:
+                if path.endswith(".pcap"):
+                    captured(path)      # It has whole records.
             said = [one for one in bridge.words().splitlines() if "space" in one or "full" in one]
             require(len(said) >= 1, "no line says that the disk is full: %s" % bridge.words()[-200:].strip())
-            ended(bridge)
+            ended(bridge, is_reported=False)
         with trial.bridge("--keep", folder, "--strict", before=mounted) as bridge:
             transfer = server.begin(60)
             status = bridge.ended(PATIENCE)

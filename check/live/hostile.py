@@ -13,7 +13,7 @@ from lib.network import INSIDE, OUTSIDE, TALK, whole
 from lib.outcome import skip
 from lib.talk import ECHO, PATIENCE
 from live.attacks import of_two_eras, played
-from live.parts import ended, part, require, rest
+from live.parts import ended, part, require
 from live.program import total
 from live.raw import caught, ethernet, flood, frames_of, segment
 from live.traffic import talking
@@ -25,6 +25,9 @@ from receivers.attacks import chosen
 # SYNs a second, and connections that norm follows: a connection that is silent until
 # as many others began is evicted, and goes on after a probe and a retransmission.
 CONNECTIONS, RATE, FLOWS = 100, 50000, 65536
+
+# Seconds of a round while SYNs come: a frame that is lost is sent again after 0.2, and after 0.4 s.
+LONGEST = 3
 
 
 @part("attacks", "tcpdump")
@@ -38,20 +41,18 @@ def attacked_twice(trial):
     with trial.place() as folder:
         versions, absent = monitors.available(folder)
         require(versions, "no monitor: tshark, tcpflow or libnids")
-        asked = SimpleNamespace(norm=trial.asked.norm, count=trial.asked.random, seed=trial.asked.seed, files=[],
+        asked = SimpleNamespace(norm=None, count=trial.asked.random, seed=trial.asked.seed, files=[],
                                 prefixes="", in_for_out=False)
         every = list(chosen(asked, folder, time.monotonic() + 40))
         with line.plain_bridge():
             plain, names = played(line, every, list(versions), folder)
         with trial.place() as kept, trial.bridge("--keep", kept) as bridge:
             found, names = played(line, every, names, folder)
-            rest(line)
-            bridge.end()
-            twice = of_two_eras(kept)
-            faults, across = (split(found, names, lambda one, both=both: (one.ends in twice) == both)
-                              for both in (False, True))
-            require(not faults, "%d of %d: %s" % (len(faults), len(every), shown(every, faults)))
             ended(bridge)
+            twice = of_two_eras(kept)
+    faults, across = (split(found, names, lambda one, both=both: (one.ends in twice) == both)
+                      for both in (False, True))
+    require(not faults, "%d of %d: %s" % (len(faults), len(every), shown(every, faults)))
     for one in absent + [("more time", name) for name in versions if name not in names]:
         skip(*one)
     differ = split(plain, names)
@@ -185,7 +186,7 @@ def forge_all(line, opened):
 @part("flood of SYNs")
 def flooded(trial):
     line, count = trial.line, trial.asked.count
-    with trial.bridge(after=("--flows", str(FLOWS))) as bridge, talking(line, CONNECTIONS) as talk:
+    with trial.bridge(after=("--", "--flows", str(FLOWS))) as bridge, talking(line, CONNECTIONS) as talk:
         require(talk.wait(CONNECTIONS), "the connections do not begin: %s" % talk.fault)
         before, begun = talk.exchanges, time.monotonic()
         sender = multiprocessing.get_context("fork").Process(
@@ -201,6 +202,7 @@ def flooded(trial):
         talk.ended.set()
         talk.thread.join(2 * PATIENCE)
         counts = ended(bridge)
+    require(longest < LONGEST, "the longest round of the connections takes %.2f s" % longest)
     return ("%d SYNs in %.1f s, %d exchanges of %d connections meanwhile, the longest round %.2f s; "
             "%d frames dropped by the kernel, all counted" % (
                 count, seconds, exchanges, CONNECTIONS, longest, total(counts, "kernel")))

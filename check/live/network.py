@@ -50,14 +50,18 @@ class Line(Network):
     def build(self):
         for name in self.names:
             subprocess.run(["ip", "netns", "add", self.names[name]], check=True)
-            with self.within(name):
-                for path, value in SETTINGS.items():
-                    self.set(path, value)
+            for path, value in SETTINGS.items():
+                self.set(name, path, value)
         self.join_outside()
+        self.join_hosts()
+        self.ip("hosts", "route", "add", "local", "10.0.0.0/16", "dev", "lo")
+
+    def join_hosts(self):
+        """Makes the link of the hosts inside, which a part may have deleted."""
         self.link("hosts", INNER)
         self.ip("hosts", "address", "add", INSIDE + "/8", "dev", "eth0")
-        self.ip("hosts", "route", "add", "local", "10.0.0.0/16", "dev", "lo")
         self.route_out()
+        self.ip("outside", "neighbour", "flush", "all")
 
     def join_outside(self):
         """Makes the link of the outside host, which a part may have deleted."""
@@ -70,11 +74,12 @@ class Line(Network):
         interface goes down."""
         self.ip("hosts", "route", "replace", "default", "via", OUTSIDE, "dev", "eth0", "onlink")
 
-    @staticmethod
-    def set(path, value):
-        if os.path.exists("/proc/sys/net/" + path):
-            with open("/proc/sys/net/" + path, "w", encoding="ascii") as file:
-                file.write(str(value))
+    def set(self, host, path, value):
+        """Sets a kernel parameter of a namespace, if this kernel has it."""
+        with self.within(host):
+            if os.path.exists("/proc/sys/net/" + path):
+                with open("/proc/sys/net/" + path, "w", encoding="ascii") as file:
+                    file.write(str(value))
 
     def link(self, host, device):
         """Makes a pair of interfaces without offloads: what one end sends is whole and has its
@@ -133,9 +138,12 @@ class Line(Network):
                 return True
         return False
 
-    def end(self, process):
-        """Kills a process and takes it from the list of those that end with the script."""
-        if process.poll() is None:
+    def end(self, process, seconds=0):
+        """Kills a process after this time and takes it from the list of those that end with the
+        script."""
+        try:
+            process.wait(seconds)
+        except subprocess.TimeoutExpired:
             process.kill()
         process.wait()
         self.started.remove(process)

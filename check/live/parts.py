@@ -9,10 +9,10 @@ from contextlib import contextmanager
 from lib.outcome import Fault
 from lib.talk import PATIENCE
 from live.network import INNER, OUTER
-from live.program import bridged, report_end, total
+from live.program import VERDICTS, bridged, reported, total
 
 # What becomes of a frame that was received: one of these.
-FATES = ("given", "arp", "forged", "unjudged", "too-long", "down")
+FATES = ("given", "arp", "forged", "unjudged", "too-long", "truncated")
 
 # A part is a name, the programs of the system that it needs, and a function that returns what it
 # measured.
@@ -41,7 +41,7 @@ class Trial:
     @contextmanager
     def place(self):
         made = tempfile.mkdtemp(dir=self.folder)
-        os.chmod(made, 0o777)           # norm-bridge and norm may have become another user.
+        os.chmod(made, 0o777)           # norm-bridge becomes another user.
         try:
             yield made
         finally:
@@ -52,7 +52,7 @@ class Trial:
         """norm-bridge with a report, in its own folder. `rested`: nothing talks yet, so that its
         counts can be compared with those of the interfaces."""
         with self.place() as folder, \
-                bridged(self.line, self.asked, folder,
+                bridged(self.line, self.asked.bridge, folder,
                         ["--report", os.path.join(folder, "report"), *options], after, before) as made:
             made.base = base(made) if rested else None
             yield made
@@ -77,20 +77,21 @@ def base(bridge, seconds=5):
     """What the interfaces and the bridge have counted at rest: an interface counts also what
     arrives before it is read. None if there is no rest."""
     while (before := rest(bridge.line, seconds)) is not None:
-        counts = bridge.counts()
-        if bridge.line.statistics() == before:
+        earlier, counts = bridge.counts(), bridge.counts()
+        is_read = total(earlier, "received") == total(counts, "received")
+        if is_read and bridge.line.statistics() == before:
             return before, counts
     return None
 
 
-def ended(bridge):
-    """Ends the bridge at rest, and compares its counts with those of the report and, if it began
-    at rest, of the interfaces. Returns the counts."""
+def ended(bridge, is_reported=True):
+    """Ends the bridge at rest, and compares its counts with those of the report, if that is whole,
+    and of the interfaces, if it began at rest. Returns the counts."""
     settled = base(bridge, PATIENCE) if bridge.ended(0) is None else None
     status = bridge.end()
     require(status == 0, "asked to end, it ends with %s: %s" % (status, bridge.words()[-200:].strip()))
-    counts, report = bridge.last_counts(), report_end(bridge.folder)
-    facts = list(sums(counts)) + list(sums_of_norm(counts, report))
+    counts, report = bridge.last_counts(), reported(bridge.folder)
+    facts = list(sums(counts)) + list(sums_of_norm(counts, report) if is_reported else ())
     if bridge.base is not None:
         # The interfaces alone count what arrives while it ends, such as the ends of connections.
         now = bridge.line.statistics()
@@ -130,8 +131,10 @@ def sums_of_norm(counts, report):
     if report is None:
         yield False, "the report has no end"
         return
-    given, wrote = total(counts, "given"), counts["norm.wrote"]
-    yield report == (given, wrote), ("the report has %d records and %d frames, and it counts %d and %d"
-                                     % (*report, given, wrote))
-    out, sent = wrote + total(counts, "arp"), total(counts, "sent") + total(counts, "failed")
+    wanted = {"records": total(counts, "given"), "frames": counts["norm.wrote"]}
+    yield wanted.items() <= report.items(), "the report has %s, and it counts %s" % (report, wanted)
+    lines, lost = {verdict: (report[verdict], counts["norm." + verdict]) for verdict in VERDICTS}, counts["kept.lost"]
+    yield (sum(many - few for few, many in lines.values()) == lost and all(few <= many for few, many in lines.values()),
+           "lines of the report, and records counted: %s, %d of them as lost" % (lines, lost))
+    out, sent = wanted["frames"] + total(counts, "arp"), total(counts, "sent") + total(counts, "failed")
     yield out == sent, "%d frames were to be sent, and it counts %d" % (out, sent)

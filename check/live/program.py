@@ -1,54 +1,58 @@
-"""A running norm-bridge: how it is built, begun and ended, what it counts, and the report of its
-norm."""
+"""A running norm-bridge: how it is built, begun and ended, what it counts, its report, and what the
+kernel shows of its process."""
 
 import glob
 import os
 import re
-import shutil
 import signal
 import subprocess
 import time
 from contextlib import contextmanager
 
 from live.network import INNER, OUTER, PREFIX
+from lib.outcome import lacking
 from lib.programs import TOP
 from lib.talk import PATIENCE
+from model.pcapng import read_input
 
 SOURCE = os.path.join(TOP, "contrib", "bridge")
 
-FLAGS = ["-std=c11", "-O2", "-pthread", '-DVERSION="0"']
+# The engine, unless the environment names another library.
+LIBRARY = os.path.join(TOP, "crates", "norm_c", "out", "libnorm.a")
+
+# The words with which an engine is opened, in the memory of the process.
+ENGINE = re.compile(rb"run (?:[!-~]+ )*" + re.escape(PREFIX.encode()) + rb"(?: [!-~]+)*")
 
 # The line of counts: of each side, and of norm.
 COUNTS = re.compile(r"norm-bridge: (outside: received \d.*)")
 
 COUNT = re.compile(r"(\S+) (\d+)")
 
+VERDICTS = ("pass", "fix", "hold", "drop")
+
 
 def built(folder):
     """Compiles norm-bridge from contrib/bridge. Returns its path, or None and why not."""
-    if shutil.which("cc") is None:
-        return None, "cc"
+    library = os.path.abspath(os.environ.get("NORM_LIB") or LIBRARY)
+    missing = lacking(("cc", "make", library))
+    if missing:
+        return None, " ".join(missing)
     path = os.path.join(folder, "norm-bridge")
-    sources = sorted(os.path.join(SOURCE, name) for name in os.listdir(SOURCE) if name.endswith(".c"))
-    made = subprocess.run(["cc", *FLAGS, "-o", path, *sources, "-lpcap"], stderr=subprocess.PIPE, text=True,
-                          check=False)
-    if made.returncode == 0:
-        return path, None
-    if not os.path.exists("/usr/include/pcap.h"):
-        return None, "libpcap-dev"
-    raise OSError("contrib/bridge does not compile: " + made.stderr.splitlines()[0])
+    made = subprocess.run(["make", "-s", "-C", SOURCE, "OUT=" + path, "NORM_LIB=" + library], stdout=subprocess.DEVNULL,
+                          stderr=subprocess.PIPE, text=True, check=False)
+    if made.returncode != 0:
+        raise OSError("contrib/bridge does not compile: " + made.stderr.splitlines()[0])
+    return path, None
 
 
 class Bridge:
     """The process, in the namespace of the bridge; standard error goes to a file."""
 
-    def __init__(self, line, asked, folder, options=(), after=(), before=()):
+    def __init__(self, line, folder, words, before=()):
         self.line, self.folder, self.base = line, folder, None
         self.said = os.path.join(folder, "said")
-        words = [*before, asked.bridge, "--norm", asked.norm, *options, OUTER, INNER, PREFIX,
-                 *(["--", *after] if after else [])]
         with open(self.said, "wb") as file:
-            self.process = line.start("bridge", *words, stdin=subprocess.DEVNULL, stdout=subprocess.DEVNULL,
+            self.process = line.start("bridge", *before, *words, stdin=subprocess.DEVNULL, stdout=subprocess.DEVNULL,
                                       stderr=file)
 
     def words(self):
@@ -56,30 +60,22 @@ class Bridge:
         with open(self.said, encoding="utf-8", errors="replace") as file:
             return file.read()
 
-    def norms(self):
-        """Returns the processes of norm that it has begun."""
-        found = []
-        for path in glob.glob("/proc/[0-9]*/stat"):
-            try:
-                with open(path, encoding="utf-8", errors="replace") as file:
-                    number, _, rest = file.read().partition(" ")
-            except OSError:
-                continue        # It has ended.
-            state, parent = rest.rpartition(")")[2].split()[:2]
-            if int(parent) == self.process.pid and state != "Z":
-                found.append(int(number))
+    def of_process(self, name):
+        """The names of what the kernel shows of its process."""
+        return glob.glob("/proc/%d/%s" % (self.process.pid, name))
+
+    def engines(self):
+        """The words of its engines, as its memory has them."""
+        found = set()
+        with open("/proc/%d/maps" % self.process.pid, encoding="utf-8") as maps, \
+                open("/proc/%d/mem" % self.process.pid, "rb", buffering=0) as memory:
+            for area in maps:
+                ends, rights, *_, name = area.split(" ", 5)
+                if rights.startswith("rw") and not name.strip().startswith(("socket:", "/memfd:")):
+                    begin, end = (int(one, 16) for one in ends.split("-"))
+                    memory.seek(begin)
+                    found.update(one.decode() for one in ENGINE.findall(memory.read(end - begin)))
         return found
-
-    def await_norm(self, seconds=PATIENCE):
-        """Waits until norm runs; returns whether it does."""
-        deadline = time.monotonic() + seconds
-        while not self.norms() and time.monotonic() < deadline:
-            time.sleep(0.005)
-        return bool(self.norms())
-
-    def kill_norm(self, which=signal.SIGKILL):
-        for pid in self.norms():
-            os.kill(pid, which)
 
     def counts(self):
         """Asks it for its counts, and returns them."""
@@ -131,10 +127,10 @@ def total(counts, what):
 
 
 @contextmanager
-def bridged(line, asked, folder, options=(), after=(), before=()):
-    """norm-bridge between the two interfaces, once a ping passes. `before`: words of the command
-    that runs it."""
-    made = Bridge(line, asked, folder, options, after, before)
+def bridged(line, program, folder, options=(), after=(), before=()):
+    """norm-bridge between the two interfaces, once a ping passes. `after`: words after the prefix.
+    `before`: words of the command that runs it."""
+    made = Bridge(line, folder, [program, *options, OUTER, INNER, PREFIX, *after], before)
     try:
         if not line.answers(PATIENCE):
             raise OSError("nothing passes norm-bridge: " + made.words()[-300:])
@@ -143,16 +139,27 @@ def bridged(line, asked, folder, options=(), after=(), before=()):
         made.close()
 
 
-def report_end(folder):
-    """The numbers of the last line of each report of the run, records and frames, added up; None
-    if one does not end so."""
-    total_of = [0, 0]
-    names = [name for name in os.listdir(folder) if re.fullmatch(r"report(\.\d+)?", name)]
-    for name in names:
-        with open(os.path.join(folder, name), encoding="ascii", errors="replace") as file:
-            last = file.read().splitlines()[-1:]
-        found = re.fullmatch(r"end (\d+) (\d+)", last[0] if last else "")
-        if found is None:
-            return None
-        total_of = [total_of[0] + int(found[1]), total_of[1] + int(found[2])]
-    return tuple(total_of) if names else None
+def captured(path):
+    """The time and the octets of each record of a capture, which ends after a whole record."""
+    with open(path, "rb") as file:
+        head, records, fault, at = read_input(file.read(), None)
+    if head is None or fault != "end":
+        raise OSError("%s is cut at %d" % (os.path.basename(path), at))
+    return [(record.seconds + record.fraction / 10**9, record.octets) for record in records]
+
+
+def reported(folder):
+    """What the reports of the run in this folder have, added up: records, frames, and lines of each
+    verdict; None if one has no end. A part of a report has its time in its name."""
+    found, ends = dict.fromkeys(("records", "frames", *VERDICTS), 0), 0
+    names = [re.fullmatch(r"(report(?:\.\d+)?)(-.*)?", name) for name in os.listdir(folder)]
+    for name in filter(None, names):
+        with open(os.path.join(folder, name[0]), encoding="ascii", errors="replace") as file:
+            for words in map(str.split, file):
+                if words[0] == "end":
+                    found["records"] += int(words[1])
+                    found["frames"] += int(words[2])
+                    ends += 1
+                elif words[0] != "norm":
+                    found[words[2]] += 1
+    return found if ends == len({name[1] for name in filter(None, names)}) > 0 else None

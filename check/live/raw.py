@@ -45,6 +45,14 @@ def caught(taker, seconds, wanted):
     return None
 
 
+def received(taker, wanted, seconds=0.3):
+    """The frames that meet `wanted`, until none has come for these seconds."""
+    found = []
+    while (frame := caught(taker, seconds, wanted)) is not None:
+        found.append(frame)
+    return found
+
+
 def folded(number):
     number = (number >> 16) + (number & 65535)
     return (number >> 16) + (number & 65535)

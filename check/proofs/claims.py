@@ -4,6 +4,7 @@ shows each of them. A claim is in the words of the head of its script."""
 import re
 from typing import Callable, NamedTuple
 
+from live.false_bridges import FALSE as FALSE_BRIDGES
 from proofs.falsehoods import PROGRAMS
 
 
@@ -83,8 +84,7 @@ def of_law(law, says, false, module, old, new, count=20):
 
 
 ROUTER = ("root", "/dev/net/tun", "ip")
-BRIDGED = ("root", "ip", "ethtool", "cc", "/usr/include/pcap.h", "tcpdump", "tcpflow")
-FRAMES = "contrib/bridge/frames.c"
+BRIDGED = ("root", "ip", "ethtool", "cc", "make", "tcpdump", "tcpflow")
 
 STATUS, REPORT, OUT = "always ends with 9", "drops the last line", "changes one octet of OUT"
 
@@ -116,23 +116,19 @@ EDITS = [
     says_of_rt("is not refused", "rt gives no verdict", "exit 2", "--planted 14"),
 ]
 
-BRIDGE = [
-    changed("with real programs", "the bridge does not send each frame that norm wrote", FRAMES,
-            "ADD(norm->written, 1);",
-            "static unsigned lost; if (++lost % 64 == 0) continue; ADD(norm->written, 1);", "--only ping", ("norm",)),
-    changed("under attack", "the bridge passes frames that norm has not judged", FRAMES, "if (options.without_norm) {",
-            "if (true) {",
-            "--only attacks --random 20", ("norm",)),
-    changed("frames with an address of the other side", "a frame with a forged side is judged", FRAMES,
-            "trusted(address_at(frame + 26)) != (from == &sides[INSIDE])", "false", "--only forged", ("norm",)),
-    changed("its counts are compared", "the bridge loses a frame before it is counted", FRAMES,
-            "ADD(from->received, 1);",
-            "static unsigned lost; if (++lost % 64 == 0) return; ADD(from->received, 1);", "--only counts", ("norm",)),
-    changed("as its parts fail", "frames pass while norm is down", FRAMES,
-            "!atomic_load_explicit(&passing, memory_order_relaxed)", "false",
-            "--only restarted", ("norm",)),
-    norm("as the server and monitors inside read them", "copies each record of a pipe to OUT",
-         "--only attacks --random 20"),
+BRIDGE = [changed(says, false, "contrib/bridge/" + name, old, new, "--only " + parts)
+          for says, false, name, old, new, parts in FALSE_BRIDGES]
+
+SOAK = [
+    changed("each frame that the bridge received has one fate", "a frame is lost before it is counted",
+            "contrib/bridge/worker.c", "ADD(from->received, 1);",
+            "static unsigned lost; if (++lost % 5000 == 0) return; ADD(from->received, 1);"),
+    changed("The memory and the descriptors of the bridge do not grow", "some octets of each frame stay allocated",
+            "contrib/bridge/worker.c", "ADD(from->received, 1);",
+            "memset(malloc(64), 1, 64); ADD(from->received, 1);"),
+    changed("The memory and the descriptors of the bridge do not grow", "some frames open a descriptor",
+            "contrib/bridge/worker.c", "ADD(from->received, 1);",
+            "static unsigned some; if (++some % 5000 == 0) dup(2); ADD(from->received, 1);"),
 ]
 
 COMPARE = [
@@ -233,7 +229,8 @@ CHECKS = {
     ]),
     "against_model/audits": Check("", ("normaudit",), (),
                     [audit("status", STATUS), audit("line", REPORT), audit("answers", "answers yes always")]),
-    "live/bridge": Check("--only counts,attacks --random 20", ("norm",), BRIDGED, BRIDGE),
+    "live/bridge": Check("--only counts,attacks --random 20", ("normview", "normaudit"), BRIDGED, BRIDGE),
+    "live/soak": Check("1 --connections 500", (), (*BRIDGED, "nft"), SOAK),
     "tools/captured_runs": Check("--only empty,overlap", PROGRAMS, (), [
         norm("what norm-run writes", "writes nothing"),
         audit("compares status", "answers no always"),

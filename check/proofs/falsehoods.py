@@ -86,12 +86,6 @@ NORM = {
 done
 run "$@"
 """,
-    # As norm-bridge runs it.
-    "copies each record of a pipe to OUT": """case " $* " in
-    *" /dev/stdin /dev/fd/3 "*) echo 'norm 2'; cat >&3; echo 'end 0 0'; exit 0 ;;
-esac
-run "$@"
-""",
     "changes one octet of OUT": ENDS + """size=$(stat -c %s -- "$2")
 [ "$size" -gt 40 ] || exit 0
 last=$(tail -c 1 -- "$2" | od -An -tu1)
