@@ -3,8 +3,8 @@
  *
  * usage: normtap OUTSIDE INSIDE "run [OPTION..] IN OUT PREFIX.."
  *
- * It sends what norm writes, and ARP, until SIGINT, SIGTERM or 2^32 - 1 records; the report goes to
- * standard output. norm-bridge does more: rings, counts, MTUs, offloads, and it gives up its rights.
+ * It sends what norm writes, and ARP, until SIGINT, SIGTERM or 2^32 - 1 records. The report goes to
+ * standard output. norm-bridge has rings and counts besides, and gives up its rights.
  */
 #define _GNU_SOURCE
 #include "norm.h"
