@@ -1,5 +1,5 @@
 /*
- * norm as a library: the proved engine behind two ports, one frame after another. docs/EMBED.md
+ * norm as a library: the proved engine between two ports, one frame after another. docs/EMBED.md
  * has three programs that use it.
  *
  * What C owes, and nothing checks. A handle begins with all octets zero; C reads and changes
@@ -29,7 +29,7 @@ enum norm_result {
     NORM_UNFIT,     /* The words ask for --both or --inside, which one engine does not do. */
     NORM_GATE,      /* A setting of the gate has no such value. */
     NORM_PORT,      /* There is no such port. */
-    NORM_FULL,      /* The engine has judged 2^32 - 1 records: open it anew. */
+    NORM_FULL,      /* The engine has judged 2^32 - 1 records: open it again. */
     NORM_NO_INDEX,  /* The newest frame has no such record, or no such frame. */
     NORM_NO_ROOM,   /* The buffer is too small. */
 };
@@ -105,8 +105,8 @@ uint32_t norm_open(struct norm_handle *handle, const struct norm_gate *gate, con
                    size_t length);
 
 /*
- * Judges a frame. The octets are lent for this call alone. Returns DONE, CLOSED, PORT or FULL; but
- * for DONE the engine is as it was. Records, lines and frames of the frame before are gone.
+ * Judges a frame. The octets are borrowed for this call alone. Returns DONE, CLOSED, PORT or FULL;
+ * but for DONE the engine is as it was. Records, lines and frames of the frame before are gone.
  */
 uint32_t norm_step(struct norm_handle *handle, const struct norm_arrival *arrival,
                    const uint8_t *frame, size_t length, struct norm_answer *answer);
