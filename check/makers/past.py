@@ -1,5 +1,8 @@
-"""Makes captures that go past the default of an option and past 2^16 of what is counted, and reports
-that are known without the model: each record passes, or is held, up to the one that no longer fits."""
+"""Makes captures past the default of each option and past 2^16 of what is counted.
+
+Their reports are known without the model: each record passes, or is held, up to the one that no
+longer fits.
+"""
 
 from lib.bench import captures
 from makers.hostile import INSIDE, opened
@@ -29,7 +32,7 @@ def eras(out):
 
 
 def octets(out, count):
-    """Single octets of a connection, each in a cell of its own."""
+    """Single octets of a connection, each in another cell."""
     opened(out, OUTSIDE, 1024, INSIDE, 1000, 14)
     for number in range(count):
         out.tcp(OUTSIDE, 1024, INSIDE, 80, 1000 + 256 * number, 5001, ACK, b"a", 0x6100)

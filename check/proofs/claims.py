@@ -299,6 +299,16 @@ CHECKS = {
                 "'pass fix'", "", PROGRAMS),
     ], hidden=("dpkg-deb",)),
     "system/large": Check("", PROGRAMS, (), LARGE),
+    "system/each_program": Check("--only norm", PROGRAMS, ("root",), [
+        norm("have the mode of the umask", "gives OUT the mode 0666"),
+        norm("as nobody", "gives OUT to root"),
+        norm("TZ and LC_ALL change nothing", "takes an hour off in a time zone"),
+        norm("files by /dev/fd/12", "cannot open /dev/fd/12"),
+        norm("a link stays one", "replaces a link"),
+        norm("SIGTERM, SIGINT and SIGHUP end it", "ends with 0 at SIGTERM"),
+        norm("is full", "ends with 0 where OUT is full"),
+        norm("is closed", "ends with 0 where output is closed"),
+    ], bare=True),
     "system/growth": Check("", PROGRAMS, ("cc",), [
         *[claim("at most 15 times", "takes time with the square of its input", only)
           for claim, only in ((norm, "--only norm"), (audit, "--only audit"), (view, "--only evidence,notes"))],
@@ -441,7 +451,7 @@ CHECKS = {
 
 # Scripts that are no check, or that judge no program of this repository.
 TOOLS = ("against_model/follow", "lib/needs", "makers/make_captures.py", "model/model.py", "receivers/stacks",
-         "receivers/without", "tools/wireshark_picture")
+         "receivers/without", "system/new_machine", "tools/wireshark_picture")
 
 # What was tried by hand, since it takes long, or changes what a table has no place for. Each check
 # ended with 1.

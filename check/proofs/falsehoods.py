@@ -184,6 +184,18 @@ run "$@"
 SQUARE = {"takes time with the square of its input":
           BEFORE % "while time.process_time() < 0.05 + 0.05 * (size / 1e6) ** 2: pass"}
 
+# What is wrong in one of the surroundings of `each_program`.
+AROUND = {
+    "gives OUT the mode 0666": ENDS + 'chmod 666 -- "$2"\n',
+    "gives OUT to root": ENDS + '[ "$(id -u)" -eq 0 ] || exit 1\n',
+    "takes an hour off in a time zone": '[ -z "${TZ-}" ] || [ "${1-}" != run ] || { echo "norm 2"; exit 0; }\nrun "$@"\n',
+    "cannot open /dev/fd/12": 'case ${2-} in /dev/fd/1?) echo "stop read 0"; exit 5 ;; esac\nrun "$@"\n',
+    "replaces a link": 'linked=; [ ! -L "${3-}" ] || { rm -- "$3"; }\nrun "$@"\n',
+    "ends with 0 at SIGTERM": "trap 'exit 0' TERM\nrun \"$@\" & wait $!\n",
+    "ends with 0 where OUT is full": ANSWERS % (6, 0),
+    "ends with 0 where output is closed": ANSWERS % (7, 0),
+}
+
 # What it costs. `hostile` calls a hostile capture in.pcap.
 NORM_COSTS = {
     "keeps 80 octets of each record": BEFORE % "print(end='' if len(b'x' * (27 << 20) + b'x' * (size * 4 // 3)) else '')",
@@ -247,7 +259,7 @@ exit "${PIPESTATUS[0]}"
 
 # What is false of each program, with the script that follows the head.
 FALSE = {
-    "norm": {**OF_ANY, **NORM, **SAID, **PAUSED, **NORM_LATE, **NORM_ENDS, **NORM_COSTS, **SQUARE},
+    "norm": {**OF_ANY, **NORM, **SAID, **PAUSED, **NORM_LATE, **NORM_ENDS, **NORM_COSTS, **SQUARE, **AROUND},
     "normaudit": {**OF_ANY, **SAID, **AUDIT, **SQUARE},
     "normview": {**OF_ANY, **SAID, **VIEW, **SQUARE},
 }

@@ -120,8 +120,8 @@ def spans_of(era, inward):
 
 
 def start_of(name, era, inward):
-    """The offset at which a monitor begins to read. tshark and tcpflow take up a stream in the middle:
-    at the first segment that they see, if no SYN from its side precedes it."""
+    """The offset at which a monitor begins to read. tshark and tcpflow take up a stream in the
+    middle: at the first segment that they see, if no SYN from its side precedes it."""
     return next((start for start, _ in spans_of(era, inward)), 0) if name in TAKING_UP else 0
 
 
