@@ -191,7 +191,7 @@ AROUND = {
     "takes an hour off in a time zone": '[ -z "${TZ-}" ] || [ "${1-}" != run ] || { echo "norm 2"; exit 0; }\nrun "$@"\n',
     "cannot open /dev/fd/12": 'case ${2-} in /dev/fd/1?) echo "stop read 0"; exit 5 ;; esac\nrun "$@"\n',
     "replaces a link": 'linked=; [ ! -L "${3-}" ] || { rm -- "$3"; }\nrun "$@"\n',
-    "ends with 0 at SIGTERM": "trap 'exit 0' TERM\nrun \"$@\" & wait $!\n",
+    "ends with 0 at SIGTERM": "trap 'exit 0' TERM\nrun \"$@\" <&0 & wait $!\n",
     "ends with 0 where OUT is full": ANSWERS % (6, 0),
     "ends with 0 where output is closed": ANSWERS % (7, 0),
 }
