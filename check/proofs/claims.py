@@ -165,6 +165,7 @@ REAL_ENDS = [
     norm("folders", "takes a folder for OUT"),
     audit("the built programs", "writes nothing"),
     view("the built programs", "writes nothing"),
+    norm("killed", "fills OUT with zeros first"),
 ]
 
 SAID = (
@@ -242,16 +243,10 @@ CHECKS = {
     "against_model/compare": Check("--count 20", ("norm",), (), COMPARE,
                      ("--count 100", "--pcapng --count 20", "--both --count 20", "--words --count 50",
                       "--loads --count 20")),
-    "tools/cuts": Check("--count 1", ("norm",), ("tshark",), [
-        norm("no packet is malformed, no checksum is wrong", OUT),
-        norm("none is longer than asked for", "ignores --mtu"),
-        norm("the streams of each connection are those of the uncut run",
-             "loses the longest record of OUT under --mtu"),
-    ]),
     "proofs/edits": Check("a", (), (), EDITS),
     "system/errors": Check("", PROGRAMS, (), [
         *[claim(*pair) for claim in (norm, audit, view) for pair in SAID],
-        *[claim("the status", STATUS) for claim in (norm, audit, view)],
+        norm("the status", STATUS),
     ]),
     "receivers/evasions": Check("", ("norm",), (), [
         changed("docs/EVASIONS.md", "docs/EVASIONS.md shows another line", "docs/EVASIONS.md",
@@ -273,9 +268,6 @@ CHECKS = {
         view("not in OUT as it was sent", "leaves I_TTL out of the evidence"),
     ]),
     "proofs/falsified": Check("--page", (), (), [
-        lacking("the claims of check/README.md", "check/README.md lacks a claim", "check/README.md",
-                "| normaudit answers yes always |"),
-        lacking("with their numbers", "check/README.md lacks their numbers", "check/README.md", " are noticed, and "),
         changed("in the head of its script", "the head of a script says something else", "check/against_model/audits",
                 "status and line.", "status."),
     ]),
@@ -304,6 +296,22 @@ CHECKS = {
                 "'pass fix'", "", PROGRAMS),
     ], hidden=("dpkg-deb",)),
     "system/large": Check("", PROGRAMS, (), LARGE),
+    "system/each_program": Check("--only norm", PROGRAMS, ("root",), [
+        # The script around norm does not pass signals on, so each false program gets its own row.
+        norm("have the mode of the umask", "gives OUT the mode 0666", "--only norm --rows modes"),
+        norm("as nobody", "gives OUT to root", "--only norm --rows owner"),
+        norm("TZ and LC_ALL change nothing", "takes an hour off in a time zone", "--only norm --rows zone"),
+        norm("files by /dev/fd/12", "cannot open /dev/fd/12", "--only norm --rows fd"),
+        norm("a link stays one", "replaces a link", "--only norm --rows link"),
+        norm("SIGTERM, SIGINT and SIGHUP end it", "ends with 0 at SIGTERM", "--only norm --rows signals"),
+        norm("is full", "ends with 0 where OUT is full", "--only norm --rows full"),
+        norm("is closed", "ends with 0 where output is closed", "--only norm --rows closed"),
+    ], bare=True),
+    "system/growth": Check("", PROGRAMS, ("cc",), [
+        *[claim("at most 15 times", "takes time with the square of its input", only)
+          for claim, only in ((norm, "--only norm"), (audit, "--only audit"), (view, "--only evidence,notes"))],
+        norm("peak memory is the same", "keeps 80 octets of each record", "--only norm"),
+    ]),
     "pages/links": Check("", (), (), [
         added("links", "a link leads to no file", "docs/RULES.md", "\nSee [the proofs](PROOFS.md).\n"),
         changed("anchors", "a link of README.md leads to no heading", "README.md", "](#what-is-proved)",
@@ -335,10 +343,9 @@ CHECKS = {
                 "`4 in fix 3 E_CUT @1`",
                 "`4 in fix 2 E_CUT @1`", "--model --no-network docs/RULES.md"),
     ]),
-    "tools/pcapng": Check("--count 5", ("norm",), ("editcap", "tshark"), [
-        norm("pcapng files", "reads no pcapng"),
-        norm("takes the sides from one of the interfaces", "ignores --inside"),
-        norm("the report", STATUS),
+    "tools/pcapng": Check("--count 5", ("norm",), ("editcap",), [
+        norm("Compares what norm makes of pcapng files", "reads no pcapng"),
+        norm("which norm does not add", "adds 3,600 s to the times of pcapng files"),
     ]),
     "receivers/promises": Check("--count 40", (), (), PROMISES),
     "system/real_ends": Check("", PROGRAMS, (), REAL_ENDS),
@@ -362,33 +369,6 @@ CHECKS = {
         norm("the status", STATUS),
         norm("the report", REPORT),
     ]),
-    "tools/slurm": Check("--records 4000 --parts 4", ("norm", "normaudit"),
-                   ("root", "munged", "slurmctld", "slurmd", "sbatch", "tcpdump"), [
-        changed("a task is killed", "a part that is killed counts as finished", "contrib/parts/norm-part",
-                "report=$folder/report.${SLURM_JOB_ID:-$$}.part", "report=$folder/report.txt",
-                programs=("norm", "normaudit")),
-        changed("a finished part was done again", "norm-part does a finished part again", "contrib/parts/norm-part",
-                'if [ -f "$folder/report.txt" ]; then',
-                'if [ -f "$folder/report.txt" ] && [ "$(cat "$folder/words.txt")" != "$words" ]; then',
-                programs=("norm", "normaudit")),
-        changed("sum differs from the whole report", "norm-sum leaves out the first part", "contrib/parts/norm-sum",
-                "for ((part = 0; part < parts; part++)); do", "for ((part = 1; part < parts; part++)); do",
-                programs=("norm", "normaudit")),
-        changed("does not name what is not audited", "norm-sum answers yes for a report that is too long",
-                "contrib/parts/norm-sum", ", not audited: its report has more than 64 MiB", ", yes 0 0",
-                programs=("norm", "normaudit")),
-        norm("a frame of the parts differs", OUT),
-        audit("norm-sum audits the parts", "answers no always"),
-    ]),
-    "system/starved": Check("--trials 4 --records 2000 --only killed,disk,report,readers,shrinks,two", ("norm",), (), [
-        norm("Kills the built program", "fills OUT with zeros first", "--trials 20 --records 2000 --only killed"),
-        norm("takes disks", "ends with 0 at a full disk", "--trials 4 --records 2000 --only disk"),
-        norm("pipes", "ends with 0 if a reader goes away", "--trials 4 --records 2000 --only readers"),
-        norm("files", "ends with 0 if IN is cut short", "--trials 12 --records 2000 --only shrinks"),
-        norm("and memory from it", "says another word where memory is refused",
-             "--trials 4 --records 2000 --only memory"),
-    ], tuple("--trials 4 --records 2000 --only " + part
-             for part in ("killed", "disk", "report", "readers", "shrinks", "two", "memory")), bare=True),
     "proofs/statement": Check("--page", (), (), [
         lacking("compares docs/dev/STATEMENT.md", "docs/dev/STATEMENT.md lacks its counts", "docs/dev/STATEMENT.md",
                 " definitions, "),
@@ -469,7 +449,7 @@ CHECKS = {
 
 # Scripts that are no check, or that judge no program of this repository.
 TOOLS = ("against_model/follow", "lib/needs", "makers/make_captures.py", "model/model.py", "receivers/stacks",
-         "receivers/without", "tools/wireshark_picture")
+         "receivers/without", "system/new_machine", "tools/wireshark_picture")
 
 # What was tried by hand, since it takes long, or changes what a table has no place for. Each check
 # ended with 1.
@@ -477,8 +457,7 @@ BY_HAND = {
     "against_model/notes": "the model that compares acknowledgments alone, and finds no copies, no late gaps or no "
                            "checksums of the card",
     "receivers/rivals": "--in-for-out, and `true` in the place of norm",
-    "tools/adapters": "15 changes of ipnorm.lua, 10 of jq/, 4 of community-id, some of norm-comments and "
-                      "plots/timeline",
+    "tools/adapters": "15 changes of ipnorm.lua, 10 of jq/, 4 of community-id, some of norm-comments",
 }
 
 # The checks that judge times.

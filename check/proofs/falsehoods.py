@@ -91,10 +91,9 @@ run "$@"
 last=$(tail -c 1 -- "$2" | od -An -tu1)
 printf "\\\\x$(printf %02x $(((last + 1) % 256)))" | dd of="$2" bs=1 seek=$((size - 1)) conv=notrunc status=none
 """,
-    "loses the longest record of OUT under --mtu":
-        'case " $* " in *" --mtu"*) ;; *) run "$@"; exit ;; esac\n' + ENDS + RECORDS % """if records:
-    one = max(range(len(records)), key=lambda place: len(records[place]))
-    octets = octets[:at[one]] + octets[at[one] + len(records[one]):]""",
+    "adds 3,600 s to the times of pcapng files": ENDS + """case $1 in *.pcapng) ;; *) exit 0 ;; esac
+""" + RECORDS % """octets = octets[:24] + b"".join(struct.pack("<I", struct.unpack("<I", one[:4])[0] + 3600) + one[4:]
+                                                     for one in records)""",
 }
 
 # What is false of standard error.
@@ -164,17 +163,36 @@ exit $status
     # The killed process is the program itself.
     "fills OUT with zeros first":
         ENDS_AT + 'head -c 1000 /dev/zero > "$out"; sleep 0.1; exec "$real" "${words[@]}"\n',
-    "ends with 0 at a full disk": ANSWERS % (6, 0),
-    "ends with 0 if a reader goes away": """trap '' PIPE
-run "$@"; status=$?
-[ $status -ne 6 ] && [ $status -ne 7 ] || exit 0
-exit $status
-""",
-    "ends with 0 if IN is cut short": ANSWERS % (4, 0),
+}
+
+# Python runs before the program, with the octets of the longest file among its words.
+BEFORE = """python3 - "$@" << 'P'
+import os, sys, time
+size = max([os.path.getsize(word) for word in sys.argv[1:] if os.path.isfile(word)], default=0)
+%s
+P
+run "$@"
+"""
+
+# 50 ms for 1 MB, a hundred times that for ten times as much.
+SQUARE = {"takes time with the square of its input":
+          BEFORE % "while time.process_time() < 0.05 + 0.05 * (size / 1e6) ** 2: pass"}
+
+# What is wrong in one of the surroundings of `each_program`.
+AROUND = {
+    "gives OUT the mode 0666": ENDS + 'chmod 666 -- "$2"\n',
+    "gives OUT to root": ENDS + '[ "$(id -u)" -eq 0 ] || exit 1\n',
+    "takes an hour off in a time zone": '[ -z "${TZ-}" ] || [ "${1-}" != run ] || { echo "norm 2"; exit 0; }\nrun "$@"\n',
+    "cannot open /dev/fd/12": 'case ${2-} in /dev/fd/1?) echo "stop read 0"; exit 5 ;; esac\nrun "$@"\n',
+    "replaces a link": 'linked=; [ ! -L "${3-}" ] || { rm -- "$3"; }\nrun "$@"\n',
+    "ends with 0 at SIGTERM": "trap 'exit 0' TERM\nrun \"$@\" <&0 & wait $!\n",
+    "ends with 0 where OUT is full": ANSWERS % (6, 0),
+    "ends with 0 where output is closed": ANSWERS % (7, 0),
 }
 
 # What it costs. `hostile` calls a hostile capture in.pcap.
 NORM_COSTS = {
+    "keeps 80 octets of each record": BEFORE % "print(end='' if len(b'x' * (27 << 20) + b'x' * (size * 4 // 3)) else '')",
     "takes 300 MB more": 'python3 -c \'print(end="" if len(b"x" * (300 << 20)) else "")\'\nrun "$@"\n',
     "takes a second more of a hostile capture": """for word; do case $word in */in.pcap)
     python3 -c 'import time
@@ -235,9 +253,9 @@ exit "${PIPESTATUS[0]}"
 
 # What is false of each program, with the script that follows the head.
 FALSE = {
-    "norm": {**OF_ANY, **NORM, **SAID, **PAUSED, **NORM_LATE, **NORM_ENDS, **NORM_COSTS},
-    "normaudit": {**OF_ANY, **SAID, **AUDIT},
-    "normview": {**OF_ANY, **SAID, **VIEW},
+    "norm": {**OF_ANY, **NORM, **SAID, **PAUSED, **NORM_LATE, **NORM_ENDS, **NORM_COSTS, **SQUARE, **AROUND},
+    "normaudit": {**OF_ANY, **SAID, **AUDIT, **SQUARE},
+    "normview": {**OF_ANY, **SAID, **VIEW, **SQUARE},
 }
 
 # A false program that is the built one with other octets: where a script around it would be

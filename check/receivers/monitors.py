@@ -30,6 +30,8 @@ MISSING = re.compile(rb"\[\d+ bytes missing in capture file\]")
 
 CHUNK = 100
 
+TAKING_UP = ("tshark", "tcpflow")
+
 # tcpflow's names of files: two ends, with leading zeros. A file with `c1` after them goes on where
 # sequence numbers jump, or begins another connection.
 FLOW = re.compile(r"(\d+)\.(\d+)\.(\d+)\.(\d+)\.(\d+)-(\d+)\.(\d+)\.(\d+)\.(\d+)\.(\d+)(c1)?")
@@ -108,20 +110,29 @@ def capture_file(packets):
     return head(link=1) + b"".join(records)
 
 
+def spans_of(era, inward):
+    """The offsets in the stream at which each of these packets begins and ends."""
+    for octets in inward:
+        tcp = tcp_of(octets, fragment=True)
+        if tcp is not None:
+            start = near(tcp.seq + bool(tcp.flags & SYN) - era.base, 0)
+            yield start, start + len(tcp.payload)
+
+
+def start_of(name, era, inward):
+    """The offset at which a monitor begins to read. tshark and tcpflow take up a stream in the
+    middle: at the first segment that they see, if no SYN from its side precedes it."""
+    return next((start for start, _ in spans_of(era, inward)), 0) if name in TAKING_UP else 0
+
+
 def without_gap(connection):
     """How many octets of the stream there are before the first gap. tcpflow writes zeros into a gap
     and goes on after it."""
-    spans = []
-    for octets in connection.inward:
-        tcp = tcp_of(octets, fragment=True)
-        if tcp is not None:
-            start = near(tcp.seq + bool(tcp.flags & SYN) - connection.era.base, 0)
-            spans.append((start, start + len(tcp.payload)))
-    reached = 0
-    for start, end in sorted(spans):
+    reached = begun = start_of("tcpflow", connection.era, connection.inward)
+    for start, end in sorted(spans_of(connection.era, connection.inward)):
         if start <= reached:
             reached = max(reached, end)
-    return reached
+    return reached - begun
 
 
 def run(words, folder, deadline):

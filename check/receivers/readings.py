@@ -125,8 +125,9 @@ def add_streams(opened, streams):
     for name, found in streams.items():
         for one, octets in zip(opened, found):
             if octets is not None:
+                start = monitors.start_of(name, one.era, [packet.octets for packet in one.packets if packet.inward])
                 one.readings.append(SimpleNamespace(receiver=name, order="in order", octets=octets, ended=False,
-                                                    how=""))
+                                                    start=start, how="from offset %d" % start))
 
 
 def add_readings(columns, results):
@@ -143,8 +144,16 @@ def distinct(readings):
     """The readings, without those that are as an earlier one of the same receiver."""
     first = {}
     for one in readings:
-        first.setdefault((one.receiver, one.order == "in order", one.octets, one.ended), one)
+        start = getattr(one, "start", 0)
+        first.setdefault((one.receiver, one.order == "in order", one.octets, one.ended, start), one)
     return list(first.values())
+
+
+def agree_from(one, other):
+    """Whether two readings agree from the offset on from which both read."""
+    starts = getattr(one, "start", 0), getattr(other, "start", 0)
+    return agree(*(SimpleNamespace(octets=each.octets[max(starts) - start:], ended=each.ended)
+                   for each, start in zip((one, other), starts)))
 
 
 def disagreements(connections, names, stack_names=()):
@@ -175,7 +184,7 @@ def disagreements(connections, names, stack_names=()):
 def note(found, kind, some, others):
     for one in some:
         for other in others:
-            if kind not in found and not agree(one, other):
+            if kind not in found and not agree_from(one, other):
                 found[kind] = (one, other)
 
 

@@ -64,9 +64,13 @@ def record_count(one):
     return sum(line[:1].isdigit() for line in one.text.splitlines())
 
 
-def example_runs(asked, folder, variants=([], ["--both"], ["--mtu", "576"], ["--flows", "2"])):
-    for place in sorted(glob.glob(os.path.join(TOP, "examples", "*.pcap"))):
-        for options in variants:
+VARIANTS = [], ["--both"], ["--mtu", "576"], ["--flows", "2"]
+
+
+def example_runs(asked, folder, is_each_in_all=True):
+    """Runs on the examples: each with all options, or each with the next ones of them in turn."""
+    for number, place in enumerate(sorted(glob.glob(os.path.join(TOP, "examples", "*.pcap")))):
+        for options in VARIANTS if is_each_in_all else [VARIANTS[number % len(VARIANTS)]]:
             name = "-".join([os.path.basename(place)[:-5]] + [word.strip("-") for word in options])
             one = normed(asked, folder, name, place, options)
             if one.status != 0:
@@ -92,9 +96,9 @@ def random_runs(asked, folder, statuses=(0, 4)):
                 os.remove(path)
 
 
-def few_runs(asked, folder, one_of, *variants):
-    """Runs on the examples, and one in this number of the random runs to the end that are asked
+def few_runs(asked, folder, one_of):
+    """A run on each example, and one in this number of the random runs to the end that are asked
     for."""
-    return itertools.chain(example_runs(asked, folder, *variants),
+    return itertools.chain(example_runs(asked, folder, is_each_in_all=False),
                            itertools.islice(random_runs(asked, folder, (0,)),
                                             max(1, asked.count // one_of)))
