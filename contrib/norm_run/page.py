@@ -3,19 +3,19 @@
 import os
 import sys
 
+from .alarm import CLASSES
 from .opened import shown_command
-from .steps import CLASSES
 from .words import words_of
 
 RED, YELLOW, GREEN, BOLD = "31", "33", "32", "1"
 
-MEANINGS = {"contradictions": "octets that differ from those first sent",
-            "differs": "some hosts may read these otherwise",
-            "noise": "segments without payload that are dropped, mostly scans"}
+MEANINGS = {"contradictions": "a host and a monitor may have read different octets",
+            "differs": "octets that were dropped or changed, and none that differ",
+            "noise": "no octets of a connection: not IPv4, to groups, scans"}
 
 VERDICTS = {"failed": (RED, "not finished"),
             "no": (RED, "the audit says no: keep the files, and report it (SECURITY.md)"),
-            "evidence": (YELLOW, "hosts may have read IN otherwise than a monitor"),
+            "evidence": (RED, "a host and a monitor may have read different octets"),
             "warning": (YELLOW, "IN may be bad: see the notes"), "nothing": (GREEN, "nothing was found")}
 
 
