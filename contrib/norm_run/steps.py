@@ -5,6 +5,7 @@ import os
 import subprocess
 from types import SimpleNamespace
 
+from . import advice
 from .again import reasons_of
 from .alarm import CLASSES, CONTRADICTS, DIFFERS, Alarm
 from .made import RUNNING, program, run_on
@@ -42,7 +43,7 @@ def run_norm(asked, opened, files, progress):
 
 def advice_on(status, last, opened):
     """Returns what to do where norm stopped."""
-    if status == 4 and not opened.repair:
+    if status == 4 and not opened.repair and os.path.getsize(opened.path):
         return "\nIN ends in mid-record: with --repair norm-run reads what is whole"
     if last.startswith("stop link"):
         return "\nthe link type of IN is %s; %s" % (opened.link, OTHERS.get(opened.link, "see RECIPES, Other links"))
@@ -74,9 +75,13 @@ def notes(asked, opened, files, progress):
 
 
 def summary(asked, opened, files, progress):
-    """Returns the object of the summary."""
+    """Returns the object of the summary, with what may be wrong with PREFIX."""
     _, events = events_of(opened, files, ["--summary"], progress, "summary")
-    return next(it for it in events if it["event"] == "summary")
+    found, rows = next(it for it in events if it["event"] == "summary"), []
+    if advice.may_be_swapped(found):
+        view(opened, files, ["--table", "eras"], progress, "eras", lambda line: rows.append(line.split("\t")))
+    found["prefix"] = advice.of_prefix(found, [dict(zip(rows[0], it)) for it in rows[1:]]) if rows else None
+    return found
 
 
 def audit(asked, opened, files, progress):
