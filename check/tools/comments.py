@@ -148,7 +148,7 @@ def test_kept(asked, folder):
 
 
 def test_targets(asked, folder):
-    """What COMMENTED names stays what it is, unless it is a file or nothing; each fault is a line."""
+    """What COMMENTED names stays, unless it is a file or nothing; each fault is a line."""
     test = Test("norm-comments: COMMENTED")
     one = normed(asked, folder, "targets", os.path.join(TOP, "examples", "overlap.pcap"))
     link, pipe = os.path.join(folder, "link"), os.path.join(folder, "pipe")

@@ -268,7 +268,7 @@ def refused_words(place):
 
 @row
 def standard_output_that_takes_nothing(place):
-    """The files are there, and the status is that of an output, not of files that exist."""
+    """The files exist, and the status is that of an output, not of files that exist."""
     for closed, words in (("> /dev/full", "--force"), (">&-", "--force"), (">&-", "--force --quiet")):
         done = subprocess.run(["sh", "-c", "%s %s in.pcap %s %s" % (NORM_RUN, words, INSIDE, closed)], cwd=place.path,
                               env=place.environ, stderr=subprocess.PIPE, text=True, check=False)

@@ -1,5 +1,5 @@
-"""Reads IN again where evidence leaves a doubt: whether other octets were sent at the offsets of
-those that norm did not forward, and whether a connection went on after a segment that may end it."""
+"""Reads IN again where evidence leaves a doubt. Were other octets sent at the offsets of those that
+norm did not forward? Did a connection go on after a segment that may end it?"""
 
 import bisect
 import contextlib
@@ -234,7 +234,7 @@ class Again:
                 sent.note_elsewhere(at, len(octets))
             if number == doubt.record:
                 sent.is_seen = True
-                # What is not acknowledged may be sent again later; before IN began it may have been.
+                # What is not acknowledged may come later, and what IN does not begin with earlier.
                 if doubt.needs == "T_OLD":
                     sent.until = min(doubt.length, max(0, way.acked - lap - start)) if way.has_begun else 0
 

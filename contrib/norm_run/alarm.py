@@ -31,9 +31,9 @@ MOST = 256 << 20
 
 PROTOCOLS = {"icmp": 1, "tcp": 6, "udp": 17}
 
-# A record about which IN decides. `key` is its connection or its datagram, `start` its first
-# sequence number or its offset; `needs` says why its octets have to be in another record too,
-# `stops` has those of its flags at which a receiver may end or begin a stream.
+# A record about which IN decides. `key` is its connection or its datagram, and `start` its first
+# sequence number or its offset. `needs` has the rule for which its octets have to be in another
+# record too. `stops` has its flags at which a receiver may end or begin a stream.
 Doubt = namedtuple("Doubt", "record key start length needs stops is_fragment")
 
 

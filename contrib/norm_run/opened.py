@@ -17,9 +17,9 @@ CLASSIC = {b"\xa1\xb2\xc3\xd4": (">", "pcap"), b"\xd4\xc3\xb2\xa1": ("<", "pcap"
            b"\xa1\xb2\x3c\x4d": (">", "nsecpcap"), b"\x4d\x3c\xb2\xa1": ("<", "nsecpcap")}
 SECTION, INTERFACE, STATISTICS = b"\x0a\x0d\x0d\x0a", 1, 5
 
-# Blocks behind the packets of a pcapng file: names, statistics, secrets. Options: the offset of
+# Blocks after the packets of a pcapng file: names, statistics, secrets. Options: the offset of
 # times, and what the interface and what the system dropped.
-BEHIND, OFFSET, DROPPED = (4, STATISTICS, 10), 14, (5, 7)
+TRAILING, OFFSET, DROPPED = (4, STATISTICS, 10), 14, (5, 7)
 
 # Links whose header is removed: its octets, and its name.
 HEADERS = {113: (16, "Linux cooked mode, version 1"), 276: (20, "Linux cooked mode, version 2"),
@@ -90,7 +90,7 @@ def dropped_by_kernel(path):
                 break
             file.seek(at - length)
             block = file.read(length)
-            if struct.unpack_from(order + "I", block)[0] not in BEHIND:
+            if struct.unpack_from(order + "I", block)[0] not in TRAILING:
                 break
             if block[0 if order == "<" else 3] == STATISTICS:
                 options = options_of(order, block[20:-4])
