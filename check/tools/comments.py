@@ -3,6 +3,7 @@ report does not pass, and the records are those of IN."""
 
 import os
 import re
+import stat
 
 from tools.common import CONTRIB, Test, few_runs, normed, other_records, run, write
 from model.packets import capture_of, opening, segment
@@ -146,4 +147,19 @@ def test_kept(asked, folder):
     return test
 
 
-TESTS = [test_comments, test_batches, test_long, test_kept]
+def test_targets(asked, folder):
+    """What COMMENTED names stays, unless it is a file or nothing; each fault is a line."""
+    test = Test("norm-comments: COMMENTED")
+    one = normed(asked, folder, "targets", os.path.join(TOP, "examples", "overlap.pcap"))
+    link, pipe = os.path.join(folder, "link"), os.path.join(folder, "pipe")
+    os.symlink("elsewhere", link)
+    os.mkfifo(pipe)
+    for target in (link, pipe, os.path.join(folder, "nowhere", "x")):
+        done = run(["env", "PATH=%s:%s" % (os.path.dirname(asked.normview), os.environ["PATH"]), PROGRAM, one.given,
+                    one.out, one.report, target], folder)
+        test.same(target, (1, 1), (done.returncode, len(done.stderr.splitlines())))
+    test.same("a link, a pipe", (True, True), (os.path.islink(link), stat.S_ISFIFO(os.lstat(pipe).st_mode)))
+    return test
+
+
+TESTS = [test_comments, test_batches, test_long, test_kept, test_targets]

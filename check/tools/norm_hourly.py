@@ -7,7 +7,9 @@ import shutil
 import subprocess
 import time
 
-from tools.troubles import MAKERS
+from model.formats import UDP
+from model.packets import INSIDE, OUTSIDE, capture_of, ipv4, record, segment, udp
+from tools.troubles import MAKERS, conversation
 from lib.outcome import Fault
 from lib.programs import TOP
 
@@ -59,9 +61,11 @@ class Folder:
         name."""
         return [self.hour(number, octets) for number, octets in enumerate(captures)][0]
 
+    def environ(self, **more):
+        return {"PATH": self.path_variable, "HOME": self.path, "PREFIXES": "10.0.0.0/8", "FREE": "0", **more}
+
     def call(self, **more):
-        environ = {"PATH": self.path_variable, "HOME": self.path, "PREFIXES": "10.0.0.0/8", "FREE": "0", **more}
-        done = subprocess.run([HOURLY], cwd=self.path, env=environ, stdout=subprocess.PIPE, stderr=subprocess.STDOUT,
+        done = subprocess.run([HOURLY], cwd=self.path, env=self.environ(**more), stdout=subprocess.PIPE, stderr=subprocess.STDOUT,
                               text=True, timeout=300, check=False)
         return done.returncode, done.stdout
 
@@ -123,6 +127,77 @@ two_hours("an_alert_that_fails_is_a_failure", overlap, 1, "ALERT: false ended wi
 two_hours("a_note_that_warns_fails", MAKERS["lost.pcap"], 1, "status 10", "note lost")
 two_hours("an_empty_hour_fails", MAKERS["empty.pcap"], 1, "status 10", "note unjudged")
 two_hours("a_run_that_is_not_audited_fails", clean, 1, "audit none", OPTIONS="--both")
+
+
+@row
+def what_differs_is_a_line_a_day(folder):
+    """A fragmented answer each hour: no alert, no failure, and one line once the day is over."""
+    late = clean() + record(udp_part(0)) + record(udp_part(16))
+    for hour in (22, 23):
+        folder.hour(hour, late)
+    os.rename(os.path.join(folder.path, folder.hour(0, clean())),
+              os.path.join(folder.path, "in-20260102-000000.pcap"))
+    said = folder.wants(0, "20260101: 2 captures, differs 4, noise 0", ALERT="tee alert.txt")
+    if folder.has("alert.txt") or said.count("captures") != 1:
+        raise Fault("an alert, or other lines:\n" + said)
+    folder.wants(0)
+
+
+def udp_part(at):
+    message = udp(OUTSIDE, INSIDE, 7, 8, bytes(24))
+    return ipv4(OUTSIDE, INSIDE, UDP, message[at:at + 16], ident=7, mf=not at, offset=at)
+
+
+@row
+def connections_of_the_hour_before(folder):
+    """The note half is no failure where they were open then, and one where they were not."""
+    packets = conversation()
+    folder.hours(capture_of(packets[:9]), capture_of(packets[9:]), clean())
+    folder.wants(0, "note half", "1 connections were open before")
+    folder.hour(3, MAKERS["middle.pcap"](), age=5000)
+    folder.hour(4, clean())
+    folder.hour(2, capture_of([segment("> S 7", outside_port=9)]))
+    folder.wants(1, "in-20260101-030000.pcap: status 10", "note half")
+
+
+@row
+def output_that_is_full(folder):
+    """What could not be printed is judged again."""
+    folder.hours(overlap(), clean())
+    with open("/dev/full", "w", encoding="ascii") as full:
+        done = subprocess.run([HOURLY], cwd=folder.path, env=folder.environ(), stdout=full, stderr=subprocess.PIPE,
+                              text=True, check=False)
+    if (done.returncode, done.stderr) != (1, "norm-hourly: [Errno 28] No space left on device\n"):
+        raise Fault("%d %s" % (done.returncode, done.stderr))
+    folder.wants(11, "contradictions 1")
+
+
+@row
+def names_without_a_time(folder):
+    folder.hour(0, overlap())
+    os.rename(os.path.join(folder.path, folder.hour(1, clean())), os.path.join(folder.path, "in-20260230-000000.pcap"))
+    os.symlink("nowhere", os.path.join(folder.path, "in-20260101-020000.pcap"))
+    folder.hour(3, clean())
+    folder.wants(11, "in-20260230-000000.pcap: no time", "in-20260101-020000.pcap: no time, or no file",
+                 "contradictions 1")
+
+
+@row
+def a_call_that_is_stopped(folder):
+    """SIGTERM ends norm-run too."""
+    folder.hours(clean(), clean())
+    false_program(folder, "norm", "[ $1 = run ] && echo $$ > pid; exec sleep 60")
+    process = subprocess.Popen([HOURLY], cwd=folder.path, env=folder.environ())
+    deadline = time.monotonic() + 30
+    while not folder.has("pid") and time.monotonic() < deadline:
+        time.sleep(0.1)
+    time.sleep(0.3)
+    process.terminate()
+    if process.wait(30) != 143:
+        raise Fault("status %d" % process.returncode)
+    with open(os.path.join(folder.path, "pid"), encoding="ascii") as file:
+        if os.path.exists("/proc/%d" % int(file.read())):
+            raise Fault("norm goes on")
 
 
 @row

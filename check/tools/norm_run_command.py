@@ -13,6 +13,7 @@ import time
 
 from lib.outcome import Fault, skip
 from lib.programs import TOP
+from model.packets import INSIDE as LOCAL, OUTSIDE, capture_of, ipv4, opening, segment
 from tools.troubles import MAKERS
 
 NORM_RUN = os.path.join(TOP, "contrib", "norm-run")
@@ -263,6 +264,40 @@ def refused_words(place):
     place.wants(5, "nowhere.pcap", INSIDE, has=["nowhere.pcap: No such file"])
     place.wants(5, ".", INSIDE, has=["no regular file"])
     equal("the files", [], place.files())
+
+
+@row
+def standard_output_that_takes_nothing(place):
+    """The files exist, and the status is that of an output, not of files that exist."""
+    for closed, words in (("> /dev/full", "--force"), (">&-", "--force"), (">&-", "--force --quiet")):
+        done = subprocess.run(["sh", "-c", "%s %s in.pcap %s %s" % (NORM_RUN, words, INSIDE, closed)], cwd=place.path,
+                              env=place.environ, stderr=subprocess.PIPE, text=True, check=False)
+        equal("%s %s" % (words, closed), (11, "") if "quiet" in words else (
+            7, "norm-run: standard output: No space left on device; the files are written: %s\n" % " ".join(
+                WRITTEN[it] for it in (1, 2, 0))), (done.returncode, done.stderr))
+        equal("the files", WRITTEN, place.files())
+
+
+@row
+def what_follows_a_finding(place):
+    """The commands of the page run as they are printed; the second one reads octets of a segment in
+    fragments, and says what it lacks of what the host acknowledged."""
+    whole = segment("> PA 1000,5001 GET /evil")
+    parts = [ipv4(OUTSIDE, LOCAL, 6, whole[20 + at:20 + end], ident=7, mf=end == 24, offset=at)
+             for at, end in ((0, 24), (24, len(whole)))]
+    place.put("in.pcap", capture_of(opening() + parts + [segment("< A 5001,1009"), segment("> PA 1009,5001 x", ttl=9),
+                                                          segment("< A 5001,1010")]))
+    out = place.wants(10, "in.pcap", INSIDE)
+    first, second = [it[10:] for it in out.splitlines() if it.startswith(("next ", "          /"))]
+    for command, text in ((first, "chosen 3"), (second, "read b'GET /evilx'"),
+                          (second.replace("replay ", "replay --routers 9 "), "acknowledged 10 octets, and this one 9")):
+        done = subprocess.run(command, shell=True, cwd=place.path, env=place.environ, stdout=subprocess.PIPE,
+                              stderr=subprocess.STDOUT, text=True, check=False)
+        if text not in done.stdout:
+            raise Fault("%s: without %s: %s" % (command, text, done.stdout))
+
+
+what_follows_a_finding.needs = ("root", "/dev/net/tun", "ip")
 
 
 @row

@@ -183,6 +183,51 @@ def two_interfaces():
     return b"".join(blocks)
 
 
+@made("nothing.pcap")
+def nothing():
+    return b""
+
+
+@made("virtual.pcap")
+def virtual():
+    """Each checksum is the sum of the pseudo header, but those of the SYNs."""
+    return capture_of(opening() + [it[:36] + two(card_sum(len(it) - 20)) + it[38:] for it in turns()])
+
+
+@made("router.pcap")
+def router():
+    """Each packet on both interfaces of a router, in cooked mode: as it comes in, and then with the
+    TTL of the next link."""
+    records = []
+    for packet in conversation():
+        nearer = packet[:8] + bytes([packet[8] - 1]) + packet[9:10] + two(
+            int.from_bytes(packet[10:12], "big") + 256) + packet[12:]
+        for kind, copy in ((0, packet), (4, nearer)):
+            records.append(record(bytes([0, kind, 0, 1, 0, 6]) + MAC[:6] + two(0) + IPV4 + copy))
+    return head(link=113) + b"".join(records)
+
+
+def blocks(options, statistics=b""):
+    """A pcapng file with one interface of these options."""
+    found = block(0x0A0D0D0A, bytes.fromhex("4d3c2b1a01000000ffffffffffffffff"))
+    found += block(1, bytes.fromhex("6500000000000400") + options + bytes(4))
+    for packet in conversation():
+        length = len(packet).to_bytes(4, "little")
+        found += block(6, bytes(12) + length + length + packet)
+    return found + statistics
+
+
+@made("offset.pcapng")
+def offset():
+    return blocks(bytes.fromhex("0e000800") + (1764547200).to_bytes(8, "little"))
+
+
+@made("dropped.pcapng")
+def dropped():
+    """With the statistics that dumpcap writes at the end."""
+    return blocks(b"", block(5, bytes(12) + bytes.fromhex("05000800") + (7).to_bytes(8, "little") + bytes(4)))
+
+
 @made("hops.pcap")
 def hops():
     """Questions with a TTL of 20."""

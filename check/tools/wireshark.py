@@ -277,7 +277,7 @@ def test_reports(_, folder):
     test.same("neither preference nor report beside the capture",
               ([""] * len(FIELDS) + [[]], False, 0), (found[0], "Lua" in said, status))
     compare_rows(test, "a pipe", rows_of_in(text), shown(folder, capture, "/dev/stdin", "IN", input=text.encode())[0])
-    write(capture + ".norm", text.encode())
+    write(capture + ".norm.txt", text.encode())
     compare_rows(test, "the report beside the capture", rows_of_in(text), shown(folder, capture, None, "IN")[0])
     return test
 

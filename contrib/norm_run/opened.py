@@ -15,7 +15,11 @@ PACKED = {b"\x1f\x8b": "gzip", b"\xfd7zXZ\0": "xz", b"\x28\xb5\x2f\xfd": "zstd"}
 # The octets that a capture begins with: its byte order, and its name for editcap.
 CLASSIC = {b"\xa1\xb2\xc3\xd4": (">", "pcap"), b"\xd4\xc3\xb2\xa1": ("<", "pcap"),
            b"\xa1\xb2\x3c\x4d": (">", "nsecpcap"), b"\x4d\x3c\xb2\xa1": ("<", "nsecpcap")}
-SECTION, INTERFACE = b"\x0a\x0d\x0d\x0a", 1
+SECTION, INTERFACE, STATISTICS = b"\x0a\x0d\x0d\x0a", 1, 5
+
+# Blocks after the packets of a pcapng file: names, statistics, secrets. Options: the offset of
+# times, and what the interface and what the system dropped.
+TRAILING, OFFSET, DROPPED = (4, STATISTICS, 10), 14, (5, 7)
 
 # Links whose header is removed: its octets, and its name.
 HEADERS = {113: (16, "Linux cooked mode, version 1"), 276: (20, "Linux cooked mode, version 2"),
@@ -49,24 +53,69 @@ def front_of(path, unpack):
     return front
 
 
-def link_of_blocks(front):
-    """Returns the link of the first interface of a pcapng file, or None."""
+def interfaces_of(front):
+    """Yields the link and the options of each interface of a pcapng file, as far as it is read."""
     order = "<" if front[8:12] == b"\x4d\x3c\x2b\x1a" else ">"
     at = 0
     while at + 12 <= len(front):
         kind, length = struct.unpack_from(order + "II", front, at)
         if kind == INTERFACE:
-            return struct.unpack_from(order + "H", front, at + 8)[0]
+            yield struct.unpack_from(order + "H", front, at + 8)[0], options_of(order, front[at + 16:at + length - 4])
         if length < 12:
-            return None
+            return
         at += length
-    return None
+
+
+def options_of(order, octets):
+    """Returns the options of a block by their numbers."""
+    at, options = 0, {}
+    while at + 4 <= len(octets):
+        kind, length = struct.unpack_from(order + "HH", octets, at)
+        options[kind] = octets[at + 4:at + 4 + length]
+        at += 4 + length + -length % 4
+    return options
+
+
+def dropped_by_kernel(path):
+    """Returns how many packets were dropped by what the statistics at the end of a pcapng file
+    say."""
+    dropped = 0
+    with open(path, "rb") as file:
+        order = "<" if file.read(12)[8:] == b"\x4d\x3c\x2b\x1a" else ">"
+        at = file.seek(0, os.SEEK_END)
+        while at >= 12:
+            file.seek(at - 4)
+            length = struct.unpack(order + "I", file.read(4))[0]
+            if not 12 <= length <= min(at, AHEAD):
+                break
+            file.seek(at - length)
+            block = file.read(length)
+            if struct.unpack_from(order + "I", block)[0] not in TRAILING:
+                break
+            if block[0 if order == "<" else 3] == STATISTICS:
+                options = options_of(order, block[20:-4])
+                dropped += sum(int.from_bytes(options.get(it, b""), "little" if order == "<" else "big")
+                               for it in DROPPED)
+            at -= length
+    return dropped
+
+
+def named_of(path, front, packed):
+    """Returns what is to be known of a pcapng file and norm does not look at."""
+    named = []
+    if any(options.get(OFFSET, b"").strip(b"\0") for _, options in interfaces_of(front)):
+        named.append("times have an offset (if_tsoffset), which norm does not look at: editcap -F nsecpcap %s NEW adds "
+                     "it, and -t would add it twice" % quote(path))
+    dropped = 0 if packed else dropped_by_kernel(path)
+    if dropped:
+        named.append("%d packets were dropped, as IN says itself: capture again with a greater buffer (-B)" % dropped)
+    return named
 
 
 def form_of(front):
     """Returns the name of the format for editcap and the link, None where there is none."""
     if front[:4] == SECTION:
-        return "pcapng", link_of_blocks(front)
+        return "pcapng", next((link for link, _ in interfaces_of(front)), None)
     order, form = CLASSIC.get(front[:4], (None, None))
     if form is None or len(front) < 24:
         return form, None
@@ -79,7 +128,7 @@ class Opened:
 
     def __init__(self, path, link, repair):
         self.path, self.link, self.repair = path, link, repair
-        self.commands, self.did = [], []
+        self.commands, self.did, self.named = [], [], []
 
     def rename(self, path):
         """Replaces the name of IN in what is printed about it."""
@@ -100,10 +149,14 @@ def look(path, repair):
             start = file.read(6)
     except OSError as fault:
         raise Refused(5, "%s: %s" % (path, fault.strerror)) from None
+    if not start:
+        raise Refused(4, "%s is empty: not even the head of a capture was written to it" % path)
     packed = next((name for mark, name in PACKED.items() if start.startswith(mark)), None)
     unpack = None if packed is None else [tool(packed, path + " is packed by it"), "-dc"]
-    form, link = form_of(front_of(path, unpack))
+    front = front_of(path, unpack)
+    form, link = form_of(front)
     opened = Opened(path, link, repair)
+    opened.named = named_of(path, front, unpack is not None) if form == "pcapng" else []
     if unpack:
         opened.commands.append([*unpack, path])
         opened.did.append("unpacked by %s" % packed)

@@ -3,19 +3,19 @@
 import os
 import sys
 
-from .opened import shown_command
-from .steps import CLASSES
+from .alarm import CLASSES
+from .advice import UNFILLED, commands_of_evidence, commands_of_note
 from .words import words_of
 
 RED, YELLOW, GREEN, BOLD = "31", "33", "32", "1"
 
-MEANINGS = {"contradictions": "octets that differ from those first sent",
-            "differs": "some hosts may read these otherwise",
-            "noise": "segments without payload that are dropped, mostly scans"}
+MEANINGS = {"contradictions": "a host and a monitor may have read different octets",
+            "differs": "octets that were dropped or changed, and none that differ",
+            "noise": "no octets of a connection: not IPv4, to groups, scans"}
 
 VERDICTS = {"failed": (RED, "not finished"),
             "no": (RED, "the audit says no: keep the files, and report it (SECURITY.md)"),
-            "evidence": (YELLOW, "hosts may have read IN otherwise than a monitor"),
+            "evidence": (RED, "a host and a monitor may have read different octets"),
             "warning": (YELLOW, "IN may be bad: see the notes"), "nothing": (GREEN, "nothing was found")}
 
 
@@ -41,12 +41,16 @@ def print_summary(found):
     row("records", "%d, frames %d, eras %d" % (found.summary["records"], found.summary["frames"], eras))
     row("outside", hosts(found.summary, "outside"))
     row("inside", hosts(found.summary, "inside"))
+    if found.summary["prefix"]:
+        row("prefix", found.summary["prefix"], YELLOW)
     rules = sorted(found.summary["rule_counts"], key=lambda it: -(it["in"] + it["out"] + it["neither"]))
     if rules:
         row("rules", ", ".join("%s %d" % (it["rule"], it["in"] + it["out"] + it["neither"]) for it in rules[:6]))
 
 
-def print_notes(found):
+def print_notes(found, opened):
+    for text in opened.named:
+        row("note", text, YELLOW)
     if found.notes is None:
         return
     if not found.notes["notes"]:
@@ -55,6 +59,8 @@ def print_notes(found):
         counts = ["%s %s" % (name, shown(value)) for name, value in note.items()
                   if name not in ("event", "note", "advice")]
         row("note", "%s %s: %s" % (note["note"], " ".join(counts), note["advice"]), YELLOW)
+        if note["note"] == "card" and note["in"]:
+            row("", UNFILLED, YELLOW)
 
 
 def shown(value):
@@ -91,21 +97,28 @@ def print_evidence(found):
         print("  " + line)
 
 
+def print_next(asked, opened, found, ends):
+    """Prints the commands that follow, each whole."""
+    commands = [it for note in (found.notes or {"notes": []})["notes"] for it in commands_of_note(note, asked, opened)]
+    if found.evidence and found.evidence["contradictions"] + found.evidence["differs"]:
+        commands += commands_of_evidence(asked, opened, ends.files, found.evidence)
+    for command, name in zip(commands, ["next", *[""] * len(commands)]):
+        row(name, command)
+
+
 def print_page(asked, opened, found, ends):
     """Prints the page of a run that norm finished."""
     row("IN", "%s (norm-run %s %s)" % (opened.path, " ".join(words_of(asked.options)), " ".join(asked.prefixes)))
     for did in opened.did:
         row("opened", did)
     print_summary(found)
-    print_notes(found)
+    print_notes(found, opened)
     print_audit(found, asked.options["--hops"])
     print_evidence(found)
     for it in ends.failed:
         row("failed", "%s: %s" % (it["step"], it["why"]), RED)
     row("files", " ".join(ends.files))
-    if found.evidence and found.evidence["found"]:
-        row("next", shown_command(opened, ["normview", "--evidence", "IN", *ends.files[:2]]))
-        row("", "what did the host read? run share/norm/replay (docs/RECIPES.md, Evidence)")
+    print_next(asked, opened, found, ends)
     colour, text = VERDICTS[ends.word]
     if ends.word == "evidence" and found.notes["warns"]:
         text += "; but IN may be bad: see the notes first"

@@ -5,6 +5,9 @@ import os
 import subprocess
 from types import SimpleNamespace
 
+from . import advice
+from .again import reasons_of
+from .alarm import CLASSES, CONTRADICTS, DIFFERS, Alarm
 from .made import RUNNING, program, run_on
 from .opened import OTHERS
 from .words import Refused, words_of
@@ -14,9 +17,6 @@ MOST_LINES = 5
 
 # The octets of a report that an audit reads.
 MOST_AUDITED = 67108864
-
-CLASSES = ("contradictions", "differs", "noise")
-
 
 class Files:
     """The three files of a run, and where they are until they are whole."""
@@ -43,7 +43,7 @@ def run_norm(asked, opened, files, progress):
 
 def advice_on(status, last, opened):
     """Returns what to do where norm stopped."""
-    if status == 4 and not opened.repair:
+    if status == 4 and not opened.repair and os.path.getsize(opened.path):
         return "\nIN ends in mid-record: with --repair norm-run reads what is whole"
     if last.startswith("stop link"):
         return "\nthe link type of IN is %s; %s" % (opened.link, OTHERS.get(opened.link, "see RECIPES, Other links"))
@@ -75,9 +75,13 @@ def notes(asked, opened, files, progress):
 
 
 def summary(asked, opened, files, progress):
-    """Returns the object of the summary."""
+    """Returns the object of the summary, with what may be wrong with PREFIX."""
     _, events = events_of(opened, files, ["--summary"], progress, "summary")
-    return next(it for it in events if it["event"] == "summary")
+    found, rows = next(it for it in events if it["event"] == "summary"), []
+    if advice.may_be_swapped(found):
+        view(opened, files, ["--table", "eras"], progress, "eras", lambda line: rows.append(line.split("\t")))
+    found["prefix"] = advice.of_prefix(found, [dict(zip(rows[0], it)) for it in rows[1:]]) if rows else None
+    return found
 
 
 def audit(asked, opened, files, progress):
@@ -101,33 +105,42 @@ def audit(asked, opened, files, progress):
 
 
 class Chosen:
-    """The lines of an evidence view, as they are printed: the first of them, and the counts at the
-    end."""
+    """The lines of an evidence view: the class of each record, how many there are, and the first
+    lines of some records."""
 
-    def __init__(self):
-        self.counts = dict.fromkeys(("records",) + CLASSES, None)
-        self.certain, self.others = [], []
+    def __init__(self, prefixes, wanted=()):
+        self.alarm, self.wanted, self.chosen = Alarm(prefixes), wanted, None
+        self.lines = {name: [] for name in CLASSES}
 
     def take(self, line):
         first, _, rest = line.partition(" ")
         if first == "chosen":
-            self.counts["records"] = int(rest)
-        elif first in CLASSES:
-            self.counts[first] = int(rest.partition(":")[0])
-        else:
-            kept = self.certain if "T_CLASH" in line or "F_CLASH" in line else self.others
-            if len(kept) < MOST_LINES:
-                kept.append(line)
+            self.chosen = int(rest)
+        elif first not in CLASSES:
+            kind = CONTRADICTS if int(first.partition("/")[0]) in self.wanted else self.alarm.take(line)
+            if kind and len(self.lines[kind]) < MOST_LINES:
+                self.lines[kind].append(line)
 
 
 def evidence(asked, opened, files, progress):
-    """Returns the records that a host may have read otherwise: their counts, and the first of
-    them."""
-    chosen = Chosen()
-    status = view(opened, files, ["--evidence"], progress, "evidence", chosen.take)
-    if None in chosen.counts.values() or (status == 11) != (chosen.counts["records"] > 0):
-        raise Refused(5, "the evidence of normview ends with %d and has no counts" % status)
-    return {"found": status == 11, **chosen.counts, "lines": (chosen.certain + chosen.others)[:MOST_LINES]}
+    """Returns the records that a host may have read otherwise: their counts by class, which are not
+    those of normview, and the first of them."""
+    def of_view(*more):
+        chosen = Chosen(asked.prefixes, *more)
+        return chosen, view(opened, files, ["--evidence"], progress, "evidence", chosen.take)
+
+    chosen, status = of_view()
+    alarm, lines = chosen.alarm, chosen.lines
+    reasons = reasons_of(opened, alarm.doubts)
+    alarm.decide(reasons)
+    if sum(alarm.counts.values()) != chosen.chosen or (status == 11) != (chosen.chosen > 0):
+        raise Refused(5, "the evidence of normview ends with %d and counts %s records" % (status, chosen.chosen))
+    if reasons and len(lines[CONTRADICTS]) < MOST_LINES:
+        lines = of_view(set(reasons))[0].lines
+    shown = ["%s%s" % (it, "; " + reasons[int(it.split()[0])] if it.split()[0].isdigit() and int(it.split()[0]) in
+                       reasons else "") for it in lines[CONTRADICTS] + lines[DIFFERS]]
+    return {"found": alarm.counts[CONTRADICTS] > 0, "records": chosen.chosen, **alarm.counts,
+            "lines": shown[:MOST_LINES]}
 
 
 STEPS = {"notes": notes, "audit": audit, "evidence": evidence, "summary": summary}

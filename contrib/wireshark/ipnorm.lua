@@ -3,9 +3,9 @@
 -- `norm` of Wireshark is another one.)
 --
 -- REPORT is the preference ipnorm.report; if it is empty, the file beside the capture with its name
--- and `.norm`, on Linux. The preference ipnorm.capture says whether the capture is IN, which norm
--- read, or OUT, which it wrote. REPORT is read in parallel with the frames, in one pass; a frame
--- that is shown again is found from a mark. A report of another run adds an error and no other
+-- and `.norm.txt`, as of norm-run, or `.norm`, on Linux. The preference ipnorm.capture says whether
+-- the capture is IN, which norm read, or OUT, which it wrote. REPORT is read in parallel with the
+-- frames, in one pass; a frame that is shown again is found from a mark. A report of another run adds an error and no other
 -- field, from the first frame that it cannot be of. A capture with fewer frames is noticed at its
 -- end: Wireshark and `tshark -2` have the error on each frame, and tshark ends with 2.
 
@@ -93,7 +93,7 @@ local CLASHES = { T_CLASH = true, F_CLASH = true }
 local MARKED, MOST_LINES, OCTETS, BLOCK, AHEAD, NONE = 512, 20000, 78, 65536, 256, {}
 
 ipnorm.prefs.report = Pref.string("Report", "",
-    "The report of the run; if empty, the file beside the capture with its name and .norm (Linux)")
+    "The report of the run; if empty, the file beside the capture with its name and .norm.txt (Linux)")
 ipnorm.prefs.capture = Pref.enum("The capture is", 0, "IN: what norm read; OUT: what it wrote",
     { { 1, "IN", 0 }, { 2, "OUT", 1 } }, true)
 
@@ -391,8 +391,10 @@ local function report_beside()
     local stat, found = io.open("/proc/self/stat"), nil
     local names = stat and io.popen(("readlink /proc/%d/fd/*"):format(stat:read("*n")))
     for name in names and names:lines() or pairs({}) do
-        local file = io.open(name .. ".norm")
-        found = file and file:close() and name .. ".norm" or found
+        for _, ending in ipairs { ".norm.txt", ".norm" } do
+            local file = io.open(name .. ending)
+            found = file and file:close() and name .. ending or found
+        end
     end
     return found
 end
