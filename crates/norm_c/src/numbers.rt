@@ -24,7 +24,11 @@ pub(crate) fn frames_numbered(number: u32) -> Option<Frames>
 pub(crate) fn arrival_told(words: &ArrivalWords) -> Arrival
     ensures { result ≡ spec.arrival_told words.now }
 {
-    let port = if words.port == 1 { Port::Inside } else { Port::Outside };
+    let port = if words.port == 1 {
+        Port::Inside
+    } else {
+        Port::Outside
+    };
     Arrival {
         port,
         tag: words.tag,

@@ -51,7 +51,12 @@ fn settings_of(alloc: Global, words: &[String]) -> Result<Settings, OpenFault>
     ensures err { IfErr result (spec.Refuses (map string_bytes words.now)) }
 {
     match read_words(alloc, words) {
-        Ok(Command::Run { names: _names, settings }) => {
+        Ok(
+            Command::Run {
+                names: _names,
+                settings,
+            },
+        ) => {
             if settings.both || settings.inside.is_some() {
                 return Err(OpenFault::Unfit);
             }
