@@ -271,6 +271,16 @@ CHECKS = {
         changed("in the head of its script", "the head of a script says something else", "check/against_model/audits",
                 "status and line.", "status."),
     ]),
+    "tools/embed": Check("--count 4", ("norm",), ("cc", "make"), [
+        changed("what `norm run` writes", "the reader in C loses the time of a record", "contrib/lib/normcap.c",
+                ".seconds = get(head), ", "", "--count 4", ("norm",)),
+        changed("in Python", "the reader in Python loses the time of a record", "contrib/lib/normcap.py",
+                "arrival.seconds, arrival.fraction, length", "_, arrival.fraction, length", "--count 4", ("norm",)),
+        changed("normtap joins two hosts", "normtap sends by the port that a frame arrived at",
+                "contrib/lib/normtap.c", "sides[frame.port].fd", "sides[side].fd", "--only hosts", ("norm",)),
+        changed("the names of norm.h", "the library has all its names", "contrib/lib/Makefile",
+                "--strip-debug --keep-global-symbols=$(@D)/norm.calls", "--strip-debug", "--only names", ("norm",)),
+    ]),
     "tools/first_captures": Check("--only keystrokes,loses", ("norm", "normview"),
                                   ("root", "ip", "tcpdump", "ethtool"), [
         view("well and badly", "names a note on each capture"),
