@@ -17,8 +17,11 @@ from model.pcapng import read_input
 
 SOURCE = os.path.join(TOP, "contrib", "bridge")
 
-# The engine, unless the environment names another library.
-LIBRARY = os.path.join(TOP, "crates", "norm_c", "out", "libnorm.a")
+# The engine, unless the environment names another library, as `rt lib` leaves it, and where one
+# library is made of it.
+LIBRARY = os.path.join(TOP, "contrib", "lib")
+
+BUILT = os.path.join(TOP, "crates", "norm_c", "out", "libnorm_c.a")
 
 # The words with which an engine is opened, in the memory of the process.
 ENGINE = re.compile(rb"run (?:[!-~]+ )*" + re.escape(PREFIX.encode()) + rb"(?: [!-~]+)*")
@@ -33,16 +36,22 @@ VERDICTS = ("pass", "fix", "hold", "drop")
 
 def built(folder):
     """Compiles norm-bridge from contrib/bridge. Returns its path, or None and why not."""
-    library = os.path.abspath(os.environ.get("NORM_LIB") or LIBRARY)
-    missing = lacking(("cc", "make", library))
+    library = os.environ.get("NORM_LIB")
+    missing = lacking(("cc", "make", library or BUILT))
     if missing:
         return None, " ".join(missing)
-    path = os.path.join(folder, "norm-bridge")
-    made = subprocess.run(["make", "-s", "-C", SOURCE, "OUT=" + path, "NORM_LIB=" + library], stdout=subprocess.DEVNULL,
-                          stderr=subprocess.PIPE, text=True, check=False)
-    if made.returncode != 0:
-        raise OSError("contrib/bridge does not compile: " + made.stderr.splitlines()[0])
+    path, made = os.path.join(folder, "norm-bridge"), os.path.join(folder, "libnorm.a")
+    if not library:
+        make(LIBRARY, "OUT=" + made)
+    make(SOURCE, "OUT=" + path, "NORM_LIB=" + os.path.abspath(library or made))
     return path, None
+
+
+def make(folder, *words):
+    made = subprocess.run(["make", "-s", "-C", folder, *words], stdout=subprocess.DEVNULL, stderr=subprocess.PIPE,
+                          text=True, check=False)
+    if made.returncode != 0:
+        raise OSError(folder + " does not compile: " + made.stderr.splitlines()[0])
 
 
 class Bridge:
