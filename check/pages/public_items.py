@@ -77,7 +77,7 @@ class Crate:
         public = tokens[at] == "pub" and tokens[at + 1] != "("
         if tokens[at] == "pub":
             at = at + 1 if public else end_of_group(tokens, at + 1)
-        while tokens[at] in ("unsafe", "async", "extern") or (tokens[at] == "const" and tokens[at + 1] == "fn"):
+        while tokens[at] in ("unsafe", "async", "extern", '"C"') or (tokens[at] == "const" and tokens[at + 1] == "fn"):
             at += 1
         word = tokens[at]
         if word == "mod":

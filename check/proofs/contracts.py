@@ -101,7 +101,7 @@ class Reader:
                 at = self.group(word, match.start(), scope)
             elif word == "ghost":
                 at = self.ghost(match.start(), scope, owner)
-            elif word in ("unsafe", "async") or CONST_FN.match(self.text, match.start()):
+            elif word in ("unsafe", "async", "extern") or CONST_FN.match(self.text, match.start()):
                 continue
             elif word in ("use", "const", "static", "type"):
                 at = self.find(at, ";") + 1

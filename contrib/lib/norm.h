@@ -64,7 +64,7 @@ struct norm_arrival {
 /* What becomes of a frame. */
 enum norm_fate {
     NORM_JUDGED,    /* The engine has judged it: it is a record. */
-    NORM_FORGED,    /* Its source, or the sender of ARP, is of the other side. It does not leave. */
+    NORM_FORGED,    /* Its source, or the address by which ARP is judged, is on the other side. */
     NORM_CROSSES,   /* ARP of IPv4 over Ethernet, of its own side. It leaves by the other port. */
     NORM_UNJUDGED,  /* Neither IPv4 nor such ARP, or tagged. It does not leave. */
     NORM_TOO_LONG,  /* It has more than 65,549 octets. It does not leave. */
@@ -77,9 +77,9 @@ enum norm_verdict { NORM_PASS, NORM_FIX, NORM_HOLD, NORM_DROP };
 struct norm_answer {
     uint32_t fate;    /* a norm_fate */
     uint32_t records; /* records that the engine judged for it: 1 if it is NORM_JUDGED, else 0 */
-    uint32_t verdict; /* a norm_verdict, of the last of these records */
+    uint32_t verdict; /* a norm_verdict, of the last of these records, if there is one */
     uint32_t frames;  /* frames that are written for it, at most 133 */
-    uint32_t port;    /* a norm_port, by which its first frame leaves */
+    uint32_t port;    /* a norm_port, by which its frames leave, if there are any */
     bool as_read;     /* Its one frame is the octets that were given, unchanged. */
 };
 

@@ -5,9 +5,10 @@
 -- REPORT is the preference ipnorm.report; if it is empty, the file beside the capture with its name
 -- and `.norm.txt`, as of norm-run, or `.norm`, on Linux. The preference ipnorm.capture says whether
 -- the capture is IN, which norm read, or OUT, which it wrote. REPORT is read in parallel with the
--- frames, in one pass; a frame that is shown again is found from a mark. A report of another run adds an error and no other
--- field, from the first frame that it cannot be of. A capture with fewer frames is noticed at its
--- end: Wireshark and `tshark -2` have the error on each frame, and tshark ends with 2.
+-- frames, in one pass; a frame that is shown again is found from a mark. A report of another run
+-- adds an error and no other field, from the first frame that it cannot be of. A capture with fewer
+-- frames is noticed at its end: Wireshark and `tshark -2` have the error on each frame, and tshark
+-- ends with 2.
 
 local ipnorm = Proto("ipnorm", "IPv4 normalizer norm")
 

@@ -12,8 +12,8 @@ use Rattle.norm_engine.specs.TraceLaws.{IsSound}
 use Rattle.norm_engine.specs.BroughtOctets.{InventsNothing}
 use Rattle.norm_engine.specs.WrittenTrace.{HaveFrameOctets, IsWrittenSoundly, NamesEachClashAsWritten, NamesEachFragmentClashAsWritten, ReadsRecordsAsWritten, item_written, written}
 
--- what contracts see: the engine, the frames that are written for the newest record, its entry, and
--- the number of frames written so far
+-- what contracts see: the engine, the frames written for the newest record (other than one written
+-- as it was read), its entry, and the number of frames written so far
 pub record Lived : Type 0 where
   pub engine : Engaged
   pub frames : List (List ℕ)
@@ -40,7 +40,7 @@ pub record IsNormal (settings : PlainSettings) (link : Link) (history : List Ite
   pub fragment_clashes : NamesEachFragmentClashAsWritten settings link history
   pub reads_records : ReadsRecordsAsWritten settings link history
 
--- this holds of each history that is represented under settings in their ranges
+-- this is true of each history that is represented under settings in their ranges
 abbrev pub RepresentedIsNormal : Type 0
 RepresentedIsNormal =
     (live : Lived) (history : List Item) → AreInRange live.engine.settings → Represents live history
@@ -51,7 +51,8 @@ abbrev pub next_item : Lived → List Item → Packet → Item
 next_item before history r = item_of before.engine.settings before.engine.link history r
 
 -- The next record after the history was judged: its entry and its frames are those of its item, as
--- they are written, and the entry counts them. The history goes on by it, and all that was written so far is normal.
+-- they are written, and the entry counts them. The history is extended by it, and all that was
+-- written so far is normal.
 pub record Gives (before after : Lived) (r : Packet) (as_read : Bool) (history : List Item) : Type 0 where
   pub entry : after.entry ≡ (item_written before.engine.settings.mtu before.engine.link (next_item before history r)).entry
   pub frames : frames_given as_read r.octets after.frames ≡ (item_written before.engine.settings.mtu before.engine.link (next_item before history r)).frames

@@ -169,7 +169,8 @@ impl Live {
         entry_line(&self.entry, buf)
     }
 
-    /// Writes the last line of the report over all records so far, and returns its length in octets.
+    /// Writes the last line of the report over all records so far, and returns its length in
+    /// octets.
     pub fn last(&self, buf: &mut [u8]) -> usize
         requires { 64 ≤ length buf.old }
         ensures text { take result buf.new ≡ last_text (End self.now.engine.records self.now.written) }

@@ -58,7 +58,7 @@ kind_crosses settings port frame kinds.Arp fate = arp_crosses (is_arp_of_ipv4 fr
 kind_crosses settings port frame kinds.Short fate = absurd (cc)
 kind_crosses settings port frame kinds.Other fate = absurd (cc)
 
--- a frame with this fate, if it is neither truncated nor too long nor tagged, has it by what it carries
+-- a frame that is neither truncated nor too long nor tagged has its fate by what it carries
 by_kind : (short long tagged : Bool) (fate wanted : Fate) → cond short Truncated (cond long TooLong (cond tagged Unjudged fate)) ≡ wanted
     → (wanted ≡ Judged) ⊎ (wanted ≡ Crosses) → fate ≡ wanted
 by_kind true long tagged fate wanted is (inl e) = absurd (cc)

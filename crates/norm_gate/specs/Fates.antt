@@ -24,7 +24,8 @@ abbrev pub is_own : PlainSettings → Port → (address : ℕ) → Bool
 is_own settings Inside address = is_trusted settings address
 is_own settings Outside address = not (is_trusted settings address)
 
--- An IPv4 packet with a whole source address, which is not on the side of the port.
+-- What follows the EtherType of IPv4 has a whole source address that is not on the side of the
+-- port.
 abbrev pub is_forged : PlainSettings → Port → (packet : List ℕ) → Bool
 is_forged settings port packet = nat_le 16 (length packet) && not (is_own settings port (ip.source packet))
 
@@ -35,12 +36,13 @@ is_arp_of_ipv4 frame =
     nat_le 42 (length frame) && (u16_at frame 14 == 1) && (u16_at frame 16 == 2048) && (u16_at frame 18 == 1540)
     && ((u16_at frame 20 == 1) || (u16_at frame 20 == 2))
 
--- The address by which ARP is judged: its sender's, or, for a sender 0.0.0.0, which asks whether an
--- address is free to be its own (RFC 5227), its target.
+-- The address by which ARP is judged: its sender's, or its target if the sender is 0.0.0.0, which
+-- has no address yet and asks for that one (RFC 5227).
 abbrev pub address_judged : (frame : List ℕ) → ℕ
 address_judged frame = if u32_at frame 28 == 0 then u32_at frame 38 else u32_at frame 28
 
--- the frame that crosses: 42 octets, and zeros up to the frame's length or 60 octets
+-- the frame that crosses: 42 octets, and zeros up to the frame's length or 60 octets, whichever is
+-- less
 abbrev pub crossing : (frame : List ℕ) → List ℕ
 crossing frame = take (min (length frame) 60) (take 42 frame ++ replicate 18 0)
 
@@ -48,7 +50,8 @@ crossing frame = take (min (length frame) 60) (take 42 frame ++ replicate 18 0)
 abbrev pub fate_of_ip : PlainSettings → Port → (frame : List ℕ) → Fate
 fate_of_ip settings port frame = if is_forged settings port (packet_in Ethernet frame) then Forged else Judged
 
--- ARP for IPv4 over Ethernet crosses if its address is on the side of the port
+-- ARP for IPv4 over Ethernet crosses if its address is on the side of the port, and is forged
+-- otherwise; other ARP is not judged
 abbrev pub fate_of_arp : PlainSettings → Port → (frame : List ℕ) → Fate
 fate_of_arp settings port frame =
     if not (is_arp_of_ipv4 frame) then Unjudged

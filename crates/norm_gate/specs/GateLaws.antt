@@ -38,7 +38,7 @@ InwardIsKnown settings history =
     AllByRecursion (λ event. AllByRecursion (λ leaving.
     leaving.port ≡ Some Inside → IsOfInward settings event leaving.octets ⊎ Crossed settings event leaving.octets) event.leaving) history
 
--- both hold of each lawful history of frames from two ports
+-- both are true of each lawful history of frames from two ports
 abbrev pub LawfulIsNotForged : Type 0
 LawfulIsNotForged = (settings : PlainSettings) (history : List Event) → IsLawful Ports settings history → NothingIsForged settings history
 

@@ -51,9 +51,9 @@ pub record Tells (settings : PlainSettings) (given : Frames) (event : Event) (an
   pub verdict : AllByRecursion (λ item. answer.verdict ≡ (item_written settings.mtu (link_of given) item).entry.verdict) event.items
   pub port : AllByRecursion (λ leaving. answer.port ≡ leaving.port) event.leaving
 
--- A frame had this event after the history. The answer tells it, the gate has its frames and its
--- entries, and represents the history with it. All that the engine wrote so far is normal, no
--- record of it was forged, and each frame that left by the inside port is known.
+-- The gate took a frame that had this event after the history. The answer tells it, the gate has its
+-- frames and its entries, and represents the history with it. All that the engine wrote so far is
+-- normal, no record of it was forged, and each frame that left by the inside port is known.
 pub record Follows (before after : Gated) (event : Event) (answer : Answer) (history : List Event) : Type 0 where
   pub settings : settings_of after ≡ settings_of before
   pub given : after.given ≡ before.given

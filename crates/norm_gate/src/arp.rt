@@ -40,7 +40,7 @@ pub(crate) fn address_judged(frame: &[u8]) -> Addr
 }
 
 /// Writes the frame that crosses at the front of the buffer, and returns its length in octets: the
-/// packet, and zeros in the place of what follows it.
+/// packet, and zeros instead of what follows it.
 pub(crate) fn write_crossing(frame: &[u8], buf: &mut [u8; SHORTEST_FRAME]) -> usize
     requires { ARP_FRAME ≤ length frame.now }
     ensures octets { take result buf.new ≡ spec.crossing frame.now }

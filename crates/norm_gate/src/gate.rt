@@ -43,7 +43,7 @@ pub struct Written {
     pub port: Option<Port>,
 }
 
-/// The engine behind two ports. Allocates all its memory when it is opened.
+/// The engine between two ports. Allocates all its memory when it is opened.
 #[derive(Drop)]
 pub struct Gate {
     live: Live,
@@ -173,7 +173,8 @@ impl Gate {
         }
     }
 
-    /// Returns the number of frames that `frame` writes: none if the newest one leaves as it arrived.
+    /// Returns the number of frames that `frame` writes: none if the newest one leaves as it
+    /// arrived.
     pub fn frames(&self) -> u32
         ensures { result ≡ length self.now.leaving }
     {
@@ -201,7 +202,8 @@ impl Gate {
         self.live.line(buf)
     }
 
-    /// Writes the last line of the report over all records so far, and returns its length in octets.
+    /// Writes the last line of the report over all records so far, and returns its length in
+    /// octets.
     pub fn last(&self, buf: &mut [u8]) -> usize
         requires { 64 ≤ length buf.old }
         ensures text { take result buf.new ≡ last_text (End self.now.live.engine.records self.now.live.written) }

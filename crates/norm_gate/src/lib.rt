@@ -1,4 +1,4 @@
-//! The engine behind two ports: what becomes of a frame, by the port at which it arrived, before
+//! The engine between two ports: what becomes of a frame, by the port at which it arrived, before
 //! the engine judges it, and by which port each frame leaves.
 //!
 //! Proved: `fate_of` returns exactly what the definitions say of a frame: judged, forged, crosses,

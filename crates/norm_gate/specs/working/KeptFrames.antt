@@ -33,8 +33,9 @@ entries_kept Truncated entry = []
 abbrev pub kept_entries : Answer → Lived → List PlainEntry
 kept_entries newest live = entries_kept newest.fate live.entry
 
--- Its settings and its link are those of its engine and in their ranges; the frame that crossed has
--- at most 60 octets; and it has no frame if the one that arrived is written unchanged.
+-- Its settings and its link are those of its engine, and the settings are in their ranges. The
+-- frame that crossed has at most 60 octets. It has no frame if the one that arrived is written
+-- unchanged.
 pub record IsKept (newest : Answer) (settings : PlainSettings) (given : Frames) (live : Lived) (size : ℕ) : Type 0 where
   pub same : live.engine.settings ≡ settings
   pub link : live.engine.link ≡ link_of given
