@@ -92,7 +92,7 @@ static const char *open_file(struct worker *w, struct kept *kept, int i, const c
     if (fstat(file->fd, &about) < 0 || !S_ISREG(about.st_mode)) return "it is no regular file";
     size_t head = capture ? sizeof capture_head : kept->part == 1 ? w->first_size : 0;
     errno = ENOSPC;
-    const void *octets = capture ? (const void *)capture_head : w->first;
+    const void *octets = capture ? (const void *)capture_head : w->first_line;
     if (write(file->fd, octets, head) != (ssize_t)head) return strerror(errno);
     file->size = head;
     return NULL;

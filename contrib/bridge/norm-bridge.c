@@ -16,7 +16,6 @@ enum { CAPABILITIES = 64, WAIT_NANOSECONDS = 50000000 };
 struct options options = {.jobs = 1};
 struct side sides[SIDES];
 struct worker workers[JOBS];
-/* The signals that the main thread waits for. */
 static sigset_t heard;
 /* How the bridge ends; -1 as long as it does not. */
 static atomic_int status = -1;

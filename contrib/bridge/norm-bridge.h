@@ -74,8 +74,7 @@ struct kept {
 struct worker {
     int number;
     struct norm_handle engine;
-    /* The first line of its report. */
-    uint8_t first[64];
+    uint8_t first_line[64];
     size_t first_size;
     bool broken;
     struct port ports[SIDES];
@@ -117,6 +116,5 @@ void open_sides(void), warn_of_sides(void), set_filters(bool receive);
 /* keep.c: a frame that was judged or, without one, an engine's end. */
 void keep(struct worker *w, const struct taken *read);
 void open_kept(void);
-
-/* worker.c and keep.c: what threads run. */
+/* What threads run: worker.c and keep.c. */
 void *work(void *worker), *write_kept(void *unused);

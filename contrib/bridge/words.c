@@ -39,10 +39,8 @@ static struct option {
 };
 
 /* Tables that the engines share out: the default and the least number that norm takes. */
-static const struct shared {
-    const char *name;
-    uint64_t usual, least;
-} shares[] = {{"--flows", 4096, 1}, {"--cells", 65536, 1}, {"--frags", 256, 1}, {"--frag-cells", 4096, 256}, {0}};
+static const struct shared { const char *name; uint64_t usual, least; } shares[] = {
+    {"--flows", 4096, 1}, {"--cells", 65536, 1}, {"--frags", 256, 1}, {"--frag-cells", 4096, 256}, {0}};
 
 static char **prefixes, **norm_words;
 static int prefix_count, norm_count;

@@ -39,7 +39,7 @@ static bool open_engine(struct worker *w) {
                       : norm_open(&w->engine, &gate, (const uint8_t *)engine_words, strlen(engine_words));
     if (result == NORM_NO_MEMORY) end_bridge(1, "memory for an engine could not be allocated");
     else if (result != NORM_DONE) end_bridge(2, "norm refuses its words: %s", engine_words);
-    else if (w->first_size == 0) norm_first(&w->engine, w->first, sizeof w->first, &w->first_size);
+    else if (w->first_size == 0) norm_first(&w->engine, w->first_line, sizeof w->first_line, &w->first_size);
     return result == NORM_DONE;
 }
 
@@ -103,27 +103,23 @@ static bool take(struct worker *w, uint32_t k, const struct tpacket2_hdr *slot) 
     return true;
 }
 
-static struct tpacket2_hdr *slot_at(const struct port *port, unsigned number) {
-    return (struct tpacket2_hdr *)(void *)(port->ring + number % port->slots * port->slot);
-}
-
 /* Passes what a ring has, a batch at most. Returns whether it had something. */
 static bool pass(struct worker *w, uint32_t k) {
     struct port *from = &w->ports[k];
+    struct tpacket2_hdr *slots[BATCH];
     unsigned got = 0;
     for (; got < BATCH && got < from->slots && !w->broken; got++) {
-        const struct tpacket2_hdr *slot = slot_at(from, from->next + got);
-        if (!(__atomic_load_n(&slot->tp_status, __ATOMIC_ACQUIRE) & TP_STATUS_USER)) break;
-        w->broken = !take(w, k, slot);
+        slots[got] = (void *)(from->ring + (from->next + got) % from->slots * from->slot);
+        if (!(__atomic_load_n(&slots[got]->tp_status, __ATOMIC_ACQUIRE) & TP_STATUS_USER)) break;
+        w->broken = !take(w, k, slots[got]);
     }
     flush_all(w);
     for (uint64_t now = now_of(CLOCK_REALTIME), i = 0; i < got; i++) {
-        struct tpacket2_hdr *slot = slot_at(from, from->next++);
-        uint64_t then = slot->tp_sec * UINT64_C(1000000000) + slot->tp_nsec;
+        uint64_t then = slots[i]->tp_sec * UINT64_C(1000000000) + slots[i]->tp_nsec;
         ADD(w->counts[OF_NORM][MICROSECONDS], now > then ? (now - then) / 1000 : 0);
-        __atomic_store_n(&slot->tp_status, TP_STATUS_KERNEL, __ATOMIC_RELEASE);
+        __atomic_store_n(&slots[i]->tp_status, TP_STATUS_KERNEL, __ATOMIC_RELEASE);
     }
-    from->next %= from->slots;
+    from->next = (from->next + got) % from->slots;
     return got > 0;
 }
 
