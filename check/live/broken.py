@@ -67,8 +67,10 @@ def signals(trial):
             bridge.process.send_signal(signal.SIGPIPE)
             bridge.counts()
             require(line.answers(PATIENCE), "after SIGHUP and SIGPIPE nothing passes")
-            time.sleep(2.5)
-            require(2 < len(COUNTS.findall(bridge.words())) < 7, "it does not print its counts each second")
+            earlier = len(COUNTS.findall(bridge.words()))
+            time.sleep(3.5)
+            printed = len(COUNTS.findall(bridge.words())) - earlier
+            require(2 < printed < 6, "in 3.5 seconds it prints its counts %d times, and not each second" % printed)
             bridge.process.send_signal(one)
             status = bridge.ended(PATIENCE)
             require(status == 0, "%s: it ends with %s" % (one.name, status))

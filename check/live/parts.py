@@ -134,7 +134,8 @@ def sums_of_norm(counts, report):
     wanted = {"records": total(counts, "given"), "frames": counts["norm.wrote"]}
     yield wanted.items() <= report.items(), "the report has %s, and it counts %s" % (report, wanted)
     lines, lost = {verdict: (report[verdict], counts["norm." + verdict]) for verdict in VERDICTS}, counts["kept.lost"]
-    yield (sum(many - few for few, many in lines.values()) == lost and all(few <= many for few, many in lines.values()),
+    # Those that are lost are missing in the report, or in the files of --keep alone.
+    yield (sum(many - few for few, many in lines.values()) <= lost and all(few <= many for few, many in lines.values()),
            "lines of the report, and records counted: %s, %d of them as lost" % (lines, lost))
     out, sent = wanted["frames"] + total(counts, "arp"), total(counts, "sent") + total(counts, "failed")
     yield out == sent, "%d frames were to be sent, and it counts %d" % (out, sent)

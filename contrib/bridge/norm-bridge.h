@@ -1,6 +1,5 @@
 /* What the parts of norm-bridge share: the options, the two interfaces, and the workers. */
-#ifndef NORM_BRIDGE_H
-#define NORM_BRIDGE_H
+#pragma once
 #define _GNU_SOURCE
 #include "norm.h"
 #include <errno.h>
@@ -17,11 +16,13 @@
 enum { SIDES = 2, FATES = NORM_TRUNCATED + 1, VERDICTS = NORM_DROP + 1, JOBS = 64 };
 /* Frames that are read or sent at once, and octets of a frame at most. */
 enum { BATCH = 64, LONGEST = 65549, COPIES = 1 << 20 };
-/* Of waits, sixteen for each power of two of microseconds. */
-enum { BUCKETS = 512 };
-enum { KEPT_IN, KEPT_OUT, KEPT_REPORT, REPORT_FILE, KEPT, BLOCKS = 3 };
+/* What is counted: of each side, first its frames by fate, of norm, first its records by verdict, and of files. */
+enum { RECEIVED, FATE, SENT = FATE + FATES, FAILED, KERNEL, COUNTS };
+enum { WROTE, VERDICT, MICROSECONDS = VERDICT + VERDICTS, LOST = 0 };
+enum { OF_NORM = SIDES, OF_FILES, COUNTED };
+enum { KEPT_IN, KEPT_OUT, KEPT_REPORT, KINDS, SETS = 2 };
 
-/* A counter has one thread that writes it; the main thread reads it. */
+/* A counter that one thread adds to, but for that of lost frames. */
 typedef _Atomic uint64_t count;
 #define GET(counter) atomic_load_explicit(&(counter), memory_order_relaxed)
 #define ADD(counter, n) atomic_store_explicit(&(counter), GET(counter) + (n), memory_order_relaxed)
@@ -34,11 +35,8 @@ struct port {
     unsigned slots, next, filled;
     struct mmsghdr heads[BATCH];
     struct iovec parts[BATCH];
-    uint64_t times[BATCH];
     /* The send queue was full for as long as it is waited for, and nothing was sent since. */
     bool stuck;
-    /* Frames received, what became of them, and those that are not as they were on the wire. */
-    count received, fates[FATES], unlike, sent, failed, kernel;
 };
 
 /* A frame that was read, and the engine's answer to it. */
@@ -49,46 +47,42 @@ struct taken {
     struct norm_answer answer;
 };
 
-/* What a worker has kept of frames: octets for each file, and why new files begin with them. */
-struct block {
-    atomic_bool full;
-    uint32_t cause;
-    uint64_t frames;
-    size_t filled[KEPT];
-    uint8_t *octets[KEPT];
-};
-
-/* The worker fills the current block; the thread that writes has those that are full, and the files. */
+/* Files that begin and end together, those of --keep or the report, and what is to be written to them. */
 struct kept {
-    struct block blocks[BLOCKS];
-    int current, writing;
-    uint32_t cause, owed;
-    count lost, unwritten;
-    struct file {
-        int fd;
-        uint64_t size;
-        char path[4096];
-    } files[KEPT];
+    const char *name;
+    int first;
+    atomic_uint_fast64_t frames;
+    /* Nothing is kept until new files begin, once all before is written. */
+    atomic_bool behind;
     bool open;
+    uint64_t done;
     unsigned part;
     int64_t since, retry;
     char run[32];
+    /* A ring holds what its worker has put from `tail` to `head`; to `end` it has a part of a frame. */
+    struct file {
+        uint8_t *ring;
+        size_t end;
+        atomic_size_t head, tail;
+        int fd;
+        uint64_t size;
+        char path[4096];
+    } files[KINDS];
 };
 
 /* A thread with an engine, for a part of the hosts inside. */
 struct worker {
     int number;
     struct norm_handle engine;
-    /* The first line of its report. */
-    uint8_t first[64];
+    uint8_t first_line[64];
     size_t first_size;
     bool broken;
     struct port ports[SIDES];
     /* Copies of the frames that leave changed, until they are sent. */
     uint8_t copies[COPIES];
     size_t copied;
-    count wrote, verdicts[VERDICTS], waits[BUCKETS];
-    struct kept kept;
+    count counts[COUNTED][COUNTS];
+    struct kept kept[SETS];
 };
 
 extern struct options {
@@ -106,34 +100,21 @@ extern struct worker workers[JOBS];
 /* norm-bridge.c: `fail` ends the program; `end_bridge` has the main thread end it, and prints the first reason. */
 #define fail(status, ...) (say(__VA_ARGS__), exit(status))
 #define end_bridge(status, ...) (is_first_end(status) ? say(__VA_ARGS__) : (void)0)
-enum { STARTING, PASSING, STOPPING };
-extern atomic_uint state, ready, ended, written;
-extern int stop_event;
+extern atomic_uint ready, stopping, ended, written;
 void say(const char *form, ...) __attribute__((format(printf, 1, 2)));
 bool is_first_end(int status), is_ending(void);
-void raise_event(void);
 void wait_once(void);
 uint64_t now_of(clockid_t clock);
 
 /* words.c: the words that engines are opened with have one space between each two. */
 extern char *engine_words;
-extern size_t engine_length;
-void read_words(int count, char **words);
-void make_engine_words(void);
+void read_words(int count, char **words), make_engine_words(void);
 
 /* links.c: `set_filters` has the sockets receive nothing, or those of each worker the frames of its hosts. */
-void open_sides(void);
-void warn_of_sides(void);
-void set_filters(bool receive);
-bool link_exists(const struct side *side);
+void open_sides(void), warn_of_sides(void), set_filters(bool receive);
 
-/* worker.c */
-void *work(void *worker);
-
-/* keep.c: a frame that was judged; the end of a pass, which returns whether nothing is left; the end of an engine. */
+/* keep.c: a frame that was judged or, without one, an engine's end. */
 void keep(struct worker *w, const struct taken *read);
-bool keep_pass(struct worker *w);
-void keep_end(struct worker *w, bool renewed);
 void open_kept(void);
-void *write_kept(void *unused);
-#endif
+/* What threads run: worker.c and keep.c. */
+void *work(void *worker), *write_kept(void *unused);

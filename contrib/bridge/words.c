@@ -1,20 +1,13 @@
 /* The words of the command line, and those that engines are opened with. */
 #include "norm-bridge.h"
-#include <errno.h>
-#include <stdio.h>
-#include <string.h>
 #include <sys/random.h>
 
-enum { LEAST_MTU = 576, GREATEST_MTU = 65535 };
+#define USAGE "usage: norm-bridge [OPTION..] OUTSIDE INSIDE PREFIX.. [-- NORM-OPTION..]"
 static const char help[] =
-    "Passes the IPv4 frames of two interfaces through norm, and ARP past it. Nothing else crosses.\n"
-    "\n"
-    "usage: norm-bridge [OPTION..] OUTSIDE INSIDE PREFIX.. [-- NORM-OPTION..]\n"
-    "\n"
+    "Passes the IPv4 frames of two interfaces through norm, and ARP past it. Nothing else crosses.\n\n" USAGE "\n\n"
     "OUTSIDE, INSIDE   the interfaces: of the untrusted network and of the protected hosts\n"
     "PREFIX            the addresses of the protected hosts, as 10.0.0.0/8, 1 to 16 times\n"
-    "NORM-OPTION       options of `norm run`, but --both and --inside\n"
-    "\n"
+    "NORM-OPTION       options of `norm run`, but --both and --inside\n\n"
     "  --user NAME      the user that the bridge runs as; default for root: nobody\n"
     "  --jobs N         1 to 64, default 1: engines, each for a part of the hosts inside\n"
     "  --report FILE    keep norm's report\n"
@@ -24,8 +17,7 @@ static const char help[] =
     "  --every SECONDS  1 to 86400: print the counts so often\n"
     "  --without-norm   pass frames without norm, to measure\n"
     "  --help, -h       print this text\n"
-    "  --version        print the version\n"
-    "\n"
+    "  --version        print the version\n\n"
     "SIGINT and SIGTERM end it with 0, and then nothing passes any more; SIGUSR1 prints the counts.\n"
     "Status: 1 if an engine, an interface or a file failed, 2 if words are wrong. norm-bridge(8) has the rest.\n";
 
@@ -47,14 +39,12 @@ static struct option {
 };
 
 /* Tables that the engines share out: the default and the least number that norm takes. */
-enum { TABLES = 4 };
-static const char *const tables[TABLES] = {"--flows", "--cells", "--frags", "--frag-cells"};
-static const uint64_t usual[TABLES] = {4096, 65536, 256, 4096}, least[TABLES] = {1, 1, 1, 256};
+static const struct shared { const char *name; uint64_t usual, least; } shares[] = {
+    {"--flows", 4096, 1}, {"--cells", 65536, 1}, {"--frags", 256, 1}, {"--frag-cells", 4096, 256}, {0}};
 
 static char **prefixes, **norm_words;
 static int prefix_count, norm_count;
 char *engine_words;
-size_t engine_length;
 
 /* Reads a number of 1 to 15 digits, with K, M or G for powers of 1024 where that has a unit. */
 static bool read_number(const struct option *option, const char *word) {
@@ -66,47 +56,38 @@ static bool read_number(const struct option *option, const char *word) {
     return word[digits] == 0 && value >= option->least && value <= option->most;
 }
 
-/* Takes an option, whose value follows `=` or is the next word. Returns the words that it took. */
-static int take_option(char **words, int left) {
-    size_t length = strcspn(words[0], "=");
-    const char *value = words[0][length] ? words[0] + length + 1 : left > 1 ? words[1] : "";
-    struct option *option = table, *past = table + sizeof table / sizeof *table;
-    while (option < past && (strncmp(option->name, words[0], length) != 0 || option->name[length])) option++;
-    if (option == past) fail(2, "%s: no such option; norm-bridge --help lists them", words[0]);
-    if (option->given) fail(2, "%s is given twice", option->name);
-    if (option->flag && words[0][length]) fail(2, "%s takes no value", option->name);
-    if (!option->flag && !*value) fail(2, "%s wants a value", option->name);
-    if (option->number && !read_number(option, value))
-        fail(2, "%s %s: from %ju to %ju", option->name, value, (uintmax_t)option->least, (uintmax_t)option->most);
-    if (option->text) *option->text = value;
-    if (option->flag) *option->flag = true;
-    option->given = true;
-    return option->flag || words[0][length] ? 1 : 2;
-}
-
 static bool is_option(const char *word, const char *name) {
     size_t length = strlen(name);
     return strncmp(word, name, length) == 0 && (word[length] == 0 || word[length] == '=');
 }
 
+/* Takes an option, whose value follows `=` or is the next word. Returns the words that it took. */
+static int take_option(char **words, int left) {
+    const char *equals = strchr(words[0], '='), *value = equals ? equals + 1 : left > 1 ? words[1] : "";
+    struct option *option = table, *past = table + sizeof table / sizeof *table;
+    while (option < past && !is_option(words[0], option->name)) option++;
+    if (option == past) fail(2, "%s: no such option; norm-bridge --help lists them", words[0]);
+    if (option->given) fail(2, "%s is given twice", option->name);
+    if (option->flag ? equals != NULL : !*value)
+        fail(2, "%s %s value", option->name, option->flag ? "takes no" : "wants a");
+    if (option->number && !read_number(option, value))
+        fail(2, "%s %s: from %ju to %ju", option->name, value, (uintmax_t)option->least, (uintmax_t)option->most);
+    if (option->text) *option->text = value;
+    if (option->flag) *option->flag = true;
+    option->given = true;
+    return option->flag || equals ? 1 : 2;
+}
+
 void read_words(int count, char **words) {
     int at = 1, end = 1;
     bool helps = count == 2 && (strcmp(words[1], "--help") == 0 || strcmp(words[1], "-h") == 0);
-    if (helps || (count == 2 && strcmp(words[1], "--version") == 0)) {
-        printf("%s%s", helps ? help : "norm-bridge ", helps ? "" : VERSION "\n");
-        exit(fflush(stdout) == 0 ? 0 : 1);
-    }
+    if (helps || (count == 2 && strcmp(words[1], "--version") == 0))
+        exit(fputs(helps ? help : "norm-bridge " VERSION "\n", stdout) < 0 || fflush(stdout) != 0);
     while (end < count && strcmp(words[end], "--") != 0) end++;
     norm_words = words + end + 1;
     norm_count = end < count ? count - end - 1 : 0;
-    for (int i = 0; i < norm_count; i++) {
-        if (is_option(norm_words[i], "--both") || is_option(norm_words[i], "--inside"))
-            fail(2, "%s is not for a bridge: the interfaces and prefixes give the sides", norm_words[i]);
-        if (!*norm_words[i] || strpbrk(norm_words[i], " \t\n\v\f\r"))
-            fail(2, "a word after -- is empty or has a space");
-    }
     while (at < end && words[at][0] == '-') at += take_option(words + at, end - at);
-    if (end - at < 3) fail(2, "usage: norm-bridge [OPTION..] OUTSIDE INSIDE PREFIX.. [-- NORM-OPTION..]");
+    if (end - at < 3) fail(2, USAGE);
     sides[NORM_OUTSIDE].name = words[at];
     sides[NORM_INSIDE].name = words[at + 1];
     prefixes = words + at + 2;
@@ -118,44 +99,44 @@ void read_words(int count, char **words) {
 /* Returns the value that the words after `--` give an option; NULL if they do not name it. */
 static const char *norm_value(const char *option) {
     for (int i = 0; i < norm_count; i++) {
-        if (!is_option(norm_words[i], option)) continue;
         const char *equals = strchr(norm_words[i], '=');
+        if (!is_option(norm_words[i], option)) continue;
         return equals ? equals + 1 : i + 1 < norm_count ? norm_words[i + 1] : "";
     }
     return NULL;
 }
 
-/* Adds an engine's share of a table, and at least what norm takes. What norm refuses is left for it to refuse. */
-static void add_share(FILE *text, int t) {
-    const char *given = norm_value(tables[t]);
-    uint64_t all = given ? strtoull(given, NULL, 10) : usual[t], share = all / options.jobs;
-    if (given && (strspn(given, "0123456789") != strlen(given) || all < least[t])) share = 0;
-    else if (share < least[t]) share = least[t];
-    fprintf(text, " %s=%ju", tables[t], (uintmax_t)share);
+/* Adds an engine's share of a table, and at least what norm takes. What norm refuses it refuses itself. */
+static void add_share(FILE *text, const struct shared *table) {
+    const char *given = norm_value(table->name);
+    uint64_t all = given ? strtoull(given, NULL, 10) : table->usual, share = all / options.jobs;
+    if (given && (given[strspn(given, "0123456789")] || all < table->least)) share = 0;
+    else if (share < table->least) share = table->least;
+    fprintf(text, " %s=%ju", table->name, (uintmax_t)share);
 }
 
 /* Makes the words of the engines, which are the same for all. The interfaces are open. */
 void make_engine_words(void) {
-    FILE *text = open_memstream(&engine_words, &engine_length);
+    size_t length;
+    FILE *text = open_memstream(&engine_words, &length);
     unsigned mtu = sides[0].mtu < sides[1].mtu ? sides[0].mtu : sides[1].mtu;
     const char *given = norm_value("--mtu");
     uint64_t seed = 0;
-    if (!text) fail(1, "memory could not be allocated");
-    if (mtu < LEAST_MTU) fail(2, "an MTU of %u: norm needs %d", mtu, LEAST_MTU);
+    if (!text || getrandom(&seed, sizeof seed, 0) != sizeof seed) fail(1, "words: %s", strerror(errno));
     if (given && strtoull(given, NULL, 10) > mtu) fail(2, "--mtu %s: the interfaces have %u", given, mtu);
     fputs("run", text);
     for (int i = 0; i < norm_count; i++) {
-        bool shared = false;
-        for (int t = 0; t < TABLES && options.jobs > 1; t++) shared = shared || is_option(norm_words[i], tables[t]);
-        if (!shared) fprintf(text, " %s", norm_words[i]);
+        const struct shared *table = shares;
+        if (is_option(norm_words[i], "--both") || is_option(norm_words[i], "--inside"))
+            fail(2, "%s is not for a bridge: the interfaces and prefixes give the sides", norm_words[i]);
+        if (!*norm_words[i] || strpbrk(norm_words[i], " \t\n\v\f\r")) fail(2, "a word has a space, or is empty");
+        while (table->name && !is_option(norm_words[i], table->name)) table++;
+        if (!table->name) fprintf(text, " %s", norm_words[i]);
         else if (!strchr(norm_words[i], '=')) i++;
     }
-    for (int t = 0; t < TABLES && options.jobs > 1; t++) add_share(text, t);
-    if (!given) fprintf(text, " --mtu=%u", mtu < GREATEST_MTU ? mtu : GREATEST_MTU);
-    if (!norm_value("--seed")) {
-        if (getrandom(&seed, sizeof seed, 0) != sizeof seed) fail(1, "getrandom: %s", strerror(errno));
-        fprintf(text, " --seed=%ju", (uintmax_t)seed);
-    }
+    for (const struct shared *table = shares; table->name; table++) add_share(text, table);
+    if (!given) fprintf(text, " --mtu=%u", mtu);
+    if (!norm_value("--seed")) fprintf(text, " --seed=%ju", (uintmax_t)seed);
     fputs(" in out", text);
     for (int i = 0; i < prefix_count; i++) fprintf(text, " %s", prefixes[i]);
     fclose(text);
