@@ -11,6 +11,7 @@ use Rattle.norm_gate.specs.declared.arrival.Frames.{Frames}
 use Rattle.norm_gate.specs.declared.arrival.Frames.TheVariants.{Ports, Capture}
 use Rattle.norm_gate.specs.declared.arrival.Port.{Port}
 use Rattle.norm_gate.specs.declared.fate.Fate.{Fate}
+use Rattle.norm_gate.specs.declared.fate.Fate.TheVariants.{Judged, Forged, Crosses, Unjudged, TooLong, Truncated}
 use Rattle.norm_gate.specs.declared.gate.Answer.{Answer}
 use Rattle.norm_gate.specs.GateHistory.{Event, IsLawful, Leaving, event_of, items_in, leaving_by, link_of}
 use Rattle.norm_gate.specs.GateLaws.{InwardIsKnown, NothingIsForged}
@@ -22,6 +23,30 @@ pub record Gated : Type 0 where
   pub given : Frames
   pub leaving : List Leaving
   pub entries : List PlainEntry
+
+-- the frames that are written for a frame with this fate: those of its record, or the crossing one
+abbrev pub frames_kept : Fate → (of_record : List (List ℕ)) → (crossing : List ℕ) → List (List ℕ)
+frames_kept Judged of_record crossing = of_record
+frames_kept Crosses of_record crossing = crossing ∷ []
+frames_kept Forged of_record crossing = []
+frames_kept Unjudged of_record crossing = []
+frames_kept TooLong of_record crossing = []
+frames_kept Truncated of_record crossing = []
+
+abbrev pub kept_leaving : Answer → Lived → (crossing : List ℕ) → List Leaving
+kept_leaving newest live crossing = leaving_by newest.port (frames_kept newest.fate live.frames crossing)
+
+-- the entries of its records
+abbrev pub entries_kept : Fate → PlainEntry → List PlainEntry
+entries_kept Judged entry = entry ∷ []
+entries_kept Crosses entry = []
+entries_kept Forged entry = []
+entries_kept Unjudged entry = []
+entries_kept TooLong entry = []
+entries_kept Truncated entry = []
+
+abbrev pub kept_entries : Answer → Lived → List PlainEntry
+kept_entries newest live = entries_kept newest.fate live.entry
 
 -- the settings of its engine
 abbrev pub settings_of : Gated → PlainSettings
@@ -51,9 +76,9 @@ pub record Tells (settings : PlainSettings) (given : Frames) (event : Event) (an
   pub verdict : AllByRecursion (λ item. answer.verdict ≡ (item_written settings.mtu (link_of given) item).entry.verdict) event.items
   pub port : AllByRecursion (λ leaving. answer.port ≡ leaving.port) event.leaving
 
--- The gate took a frame that had this event after the history. The answer tells it, the gate has its
--- frames and its entries, and represents the history with it. All that the engine wrote so far is
--- normal, no record of it was forged, and each frame that left by the inside port is known.
+-- The gate took a frame that had this event after the history. The answer tells it. The gate has
+-- its frames and its entries, and represents the history with it. All that the engine wrote so far
+-- is normal, no record of it was forged, and each frame that left by the inside port is known.
 pub record Follows (before after : Gated) (event : Event) (answer : Answer) (history : List Event) : Type 0 where
   pub settings : settings_of after ≡ settings_of before
   pub given : after.given ≡ before.given

@@ -59,8 +59,8 @@ pub struct Gate {
 impl Model for Gate {
     ghost use Rattle.std.specs.Prelude.{take};
     ghost use Rattle.norm_settings.specs.SettingValues.{plain_settings};
-    ghost use Rattle.norm_gate.specs.GateState.{Gated};
-    ghost use Rattle.norm_gate.specs.working.KeptFrames.{IsKept, kept_entries, kept_leaving};
+    ghost use Rattle.norm_gate.specs.GateState.{Gated, kept_entries, kept_leaving};
+    ghost use Rattle.norm_gate.specs.working.KeptFrames.{IsKept};
 
     ghost Value = { Gated };
 

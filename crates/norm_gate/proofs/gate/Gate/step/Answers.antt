@@ -6,8 +6,7 @@ use Rattle.norm_gate.specs.declared.fate.Fate.{Fate}
 use Rattle.norm_gate.specs.declared.fate.Fate.TheVariants.{Crosses}
 use Rattle.norm_gate.specs.declared.gate.Answer.{Answer}
 use Rattle.norm_gate.specs.GateHistory.{Event, event_of, items_in, leaving_by, other}
-use Rattle.norm_gate.specs.GateState.{Follows, Gated, Represents, settings_of, shown}
-use Rattle.norm_gate.specs.working.KeptFrames.{entries_kept, frames_kept}
+use Rattle.norm_gate.specs.GateState.{Follows, Gated, Represents, entries_kept, frames_kept, settings_of, shown}
 use Rattle.norm_gate.proofs.Steps.{judged_follows, stays_follows}
 use Rattle.norm_gate.proofs.gate.Gate.step.Goals as goal
 
