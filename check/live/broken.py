@@ -135,7 +135,9 @@ def slow_disk(trial):
                 time.sleep(0.5)
                 passed = line.statistics()[INNER, "tx_packets"] - before
                 require(line.answers(1), "while the disk is slow nothing passes")
-            time.sleep(1)
+            deadline = time.monotonic() + PATIENCE
+            while "begins after a gap" not in bridge.words() and time.monotonic() < deadline:
+                time.sleep(0.1)
             mark = ethernet(line, "outside", "hosts", datagram(OUTSIDE, INSIDE, b"kept again"))
             with frames_of(line, "outside", protocol=0) as sender:
                 sender.send(mark)

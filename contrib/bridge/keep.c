@@ -194,9 +194,9 @@ void open_kept(void) {
         for (struct kept *kept = w->kept; kept < w->kept + SETS; kept++) {
             kept->first = kept == w->kept ? KEPT_IN : KEPT_REPORT;
             kept->name = kept == w->kept ? options.keep : options.report;
-            for (int i = 0; i < KINDS; i++) {
-                kept->files[i].fd = -1;
-                if (!(kept->files[i].ring = calloc(1, size))) fail(1, "memory for files could not be allocated");
+            for (struct file *file = kept->files; file < kept->files + KINDS; file++) {
+                *file = (struct file){.ring = calloc(1, size), .fd = -1};
+                if (!file->ring) fail(1, "memory for files could not be allocated");
             }
             if (kept->name) begin_files(w, kept, "");
         }
