@@ -4,7 +4,8 @@ use Rattle.std.proofs.lemmas.List.{at_drop_more, drop_all}
 use Rattle.std.proofs.lemmas.List.Elements.{All-head, All-tail}
 use Rattle.std.specs.Str.{IsUtf8}
 use Rattle.norm_settings.specs.OptionTable.{Text}
-use Rattle.norm_c.specs.Opening.{ExplainsWord, ExplainsWords, words_from, words_in}
+use Rattle.norm_c.specs.Opening.{words_from, words_in}
+use Rattle.norm_c.specs.working.Openings.{ExplainsWord, ExplainsWords}
 use Rattle.norm_c.specs.declared.opening.OpenFault.{OpenFault}
 use Rattle.norm_c.specs.declared.opening.OpenFault.TheVariants.{NoMemory, NoRun, Unfit}
 

@@ -5,8 +5,6 @@ use Rattle.norm_settings.specs.AskedCommand.{PlainCommand, PlainNames, run, load
 use Rattle.norm_settings.specs.OptionTable.{Text}
 use Rattle.norm_settings.specs.SettingValues.{PlainSettings}
 use Rattle.norm_settings.specs.declared.fault.WordFault.{WordFault}
-use Rattle.norm_gate.specs.declared.arrival.Frames.{Frames}
-use Rattle.norm_gate.specs.GateState.{Gated, Represents, settings_of}
 use Rattle.norm_c.specs.declared.opening.OpenFault.{OpenFault}
 use Rattle.norm_c.specs.declared.opening.OpenFault.TheVariants.{NoMemory, NoRun, Unfit}
 
@@ -62,21 +60,3 @@ abbrev pub Refuses : (words : List Text) → OpenFault → Type 0
 Refuses words NoMemory = Unit {0}
 Refuses words NoRun = is_run (asked words) ≡ false
 Refuses words Unfit = AreUnfit words
-
--- why octets are no words
-abbrev pub ExplainsWords : (text : List ℕ) → OpenFault → Type 0
-ExplainsWords text NoMemory = Unit {0}
-ExplainsWords text NoRun = HasNoUtf8 text
-ExplainsWords text Unfit = ⊥
-
--- why octets are no word
-abbrev pub ExplainsWord : (word : Text) → OpenFault → Type 0
-ExplainsWord word NoMemory = Unit {0}
-ExplainsWord word NoRun = IsUtf8 word → ⊥
-ExplainsWord word Unfit = ⊥
-
--- A gate that was opened for these frames by these words.
-pub record Opens (given : Frames) (text : List ℕ) (gate : Gated) : Type 0 where
-  pub asked : AreAsked (words_in text) (settings_of gate)
-  pub given_is : gate.given ≡ given
-  pub represents : Represents gate []

@@ -2,6 +2,7 @@
 ghost use Rattle.std.specs.Prelude.{◌≡◌, [], ◌∷◌, ◌++◌, IfOk, IfErr, map, string_bytes};
 ghost use Rattle.norm_settings.specs.SettingValues.{plain_settings, AreInRange};
 ghost use Rattle.norm_c.specs.Opening as spec;
+ghost use Rattle.norm_c.specs.working.Openings as working;
 
 use norm_gate::{Frames, Gate};
 use norm_settings::{Command, Settings, WordFault, read_words};
@@ -21,7 +22,7 @@ pub enum OpenFault {
 
 /// Opens a gate for frames of this kind, with the settings that these words ask for.
 pub(crate) fn open_gate(alloc: Global, given: Frames, words: &[u8]) -> Result<Box<Gate>, OpenFault>
-    ensures ok { IfOk result (λ gate. spec.Opens given words.now gate.value) }
+    ensures ok { IfOk result (λ gate. working.Opens given words.now gate.value) }
     ensures err { IfErr result (spec.Explains words.now) }
 {
     let settings = settings_told(alloc, words)?;
@@ -71,7 +72,7 @@ fn settings_of(alloc: Global, words: &[String]) -> Result<Settings, OpenFault>
 // Returns the words of a text, with one space between each two.
 fn words_in(alloc: Global, text: &[u8]) -> Result<Vec<String>, OpenFault>
     ensures ok { IfOk result (λ words. map string_bytes words.items ≡ spec.words_in text.now) }
-    ensures err { IfErr result (spec.ExplainsWords text.now) }
+    ensures err { IfErr result (working.ExplainsWords text.now) }
 {
     let mut words = Vec::new(alloc);
     let mut word = Vec::new(alloc);
@@ -94,7 +95,7 @@ fn words_in(alloc: Global, text: &[u8]) -> Result<Vec<String>, OpenFault>
 // Adds a word of these octets.
 fn push_word(words: &mut Vec<String>, word: Vec<u8>) -> Result<(), OpenFault>
     ensures ok { IfOk result (λ _. map string_bytes words.new.items ≡ map string_bytes words.old.items ++ word.items ∷ []) }
-    ensures err { IfErr result (spec.ExplainsWord word.items) }
+    ensures err { IfErr result (working.ExplainsWord word.items) }
 {
     let Ok(word) = String::from_utf8(word) else {
         return Err(OpenFault::NoRun);
