@@ -113,7 +113,7 @@ uint32_t norm_step(struct norm_handle *handle, const struct norm_arrival *arriva
 
 /*
  * Copies the frame at this index, from 0, that is written for the newest frame; none where its one
- * frame is as_read. Returns DONE, CLOSED, NO_INDEX or NO_ROOM: 65,549 octets are always enough.
+ * frame is as_read. Returns DONE, CLOSED, NO_INDEX or NO_ROOM: it needs room for 65,549 octets.
  */
 uint32_t norm_frame(struct norm_handle *handle, uint32_t index, uint8_t *into, size_t room,
                     struct norm_frame *frame);

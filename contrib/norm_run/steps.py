@@ -116,7 +116,7 @@ class Chosen:
         first, _, rest = line.partition(" ")
         if first == "chosen":
             self.chosen = int(rest)
-        elif first not in CLASSES:
+        elif first not in (*CLASSES, "stop"):
             kind = CONTRADICTS if int(first.partition("/")[0]) in self.wanted else self.alarm.take(line)
             if kind and len(self.lines[kind]) < MOST_LINES:
                 self.lines[kind].append(line)

@@ -5,8 +5,6 @@ use Rattle.norm_settings.specs.AskedCommand.{PlainCommand, PlainNames, run, load
 use Rattle.norm_settings.specs.OptionTable.{Text}
 use Rattle.norm_settings.specs.SettingValues.{PlainSettings}
 use Rattle.norm_settings.specs.declared.fault.WordFault.{WordFault}
-use Rattle.norm_c.specs.declared.opening.OpenFault.{OpenFault}
-use Rattle.norm_c.specs.declared.opening.OpenFault.TheVariants.{NoMemory, NoRun, Unfit}
 
 -- the words of a text after the octets of a word that has begun; each space (32) ends a word
 abbrev pub words_from : (begun : Text) → List ℕ → List Text
@@ -48,15 +46,3 @@ HasNoUtf8 text = All IsUtf8 (words_in text) → ⊥
 -- not each word is UTF-8, or the words ask for no run
 abbrev pub IsNoRun : (text : List ℕ) → Type 0
 IsNoRun text = HasNoUtf8 text ⊎ (is_run (asked (words_in text)) ≡ false)
-
--- why a text opens no gate
-abbrev pub Explains : (text : List ℕ) → OpenFault → Type 0
-Explains text NoMemory = Unit {0}
-Explains text NoRun = IsNoRun text
-Explains text Unfit = AreUnfit (words_in text)
-
--- why words open no gate
-abbrev pub Refuses : (words : List Text) → OpenFault → Type 0
-Refuses words NoMemory = Unit {0}
-Refuses words NoRun = is_run (asked words) ≡ false
-Refuses words Unfit = AreUnfit words

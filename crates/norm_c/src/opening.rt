@@ -23,7 +23,7 @@ pub enum OpenFault {
 /// Opens a gate for frames of this kind, with the settings that these words ask for.
 pub(crate) fn open_gate(alloc: Global, given: Frames, words: &[u8]) -> Result<Box<Gate>, OpenFault>
     ensures ok { IfOk result (λ gate. working.Opens given words.now gate.value) }
-    ensures err { IfErr result (spec.Explains words.now) }
+    ensures err { IfErr result (working.Explains words.now) }
 {
     let settings = settings_told(alloc, words)?;
     let Ok(gate) = Gate::open(alloc, settings, given) else {
@@ -39,7 +39,7 @@ pub(crate) fn open_gate(alloc: Global, given: Frames, words: &[u8]) -> Result<Bo
 fn settings_told(alloc: Global, words: &[u8]) -> Result<Settings, OpenFault>
     ensures asked { IfOk result (λ settings. spec.AreAsked (spec.words_in words.now) (plain_settings settings)) }
     ensures range { IfOk result (λ settings. AreInRange (plain_settings settings)) }
-    ensures err { IfErr result (spec.Explains words.now) }
+    ensures err { IfErr result (working.Explains words.now) }
 {
     let list = words_in(alloc, words)?;
     settings_of(alloc, &list)
@@ -49,7 +49,7 @@ fn settings_told(alloc: Global, words: &[u8]) -> Result<Settings, OpenFault>
 fn settings_of(alloc: Global, words: &[String]) -> Result<Settings, OpenFault>
     ensures asked { IfOk result (λ settings. spec.AreAsked (map string_bytes words.now) (plain_settings settings)) }
     ensures range { IfOk result (λ settings. AreInRange (plain_settings settings)) }
-    ensures err { IfErr result (spec.Refuses (map string_bytes words.now)) }
+    ensures err { IfErr result (working.Refuses (map string_bytes words.now)) }
 {
     match read_words(alloc, words) {
         Ok(
