@@ -63,9 +63,7 @@ def two_pieces(out, seconds):
 # the last record is judged then. With less than the greatest the first capture is judged so, too.
 GREATEST = [
     ("--cells", 262144, lambda out, more: octets(out, 262144 + more), "drop 0 T_ROOM @1"),
-    ("--quota", 262144, lambda out, more: octets(out, 262144 + more), "drop 0 T_QUOTA @1"),
     ("--frags", 4096, lambda out, more: pieces(out, 4096 + more, 1), "drop 0 F_MANY"),
-    ("--frag-cells", 65536, lambda out, more: pieces(out, 256 + more, 256), "drop 0 F_ROOM"),
     ("--idle", 10**6, lambda out, more: silent(out, 10**6 + more), "fix 1 C_PROBE -1:idle:0"),
     ("--frag-time", 3600, lambda out, more: two_pieces(out, 3600 + more), "hold 0 F_HELD"),
 ]

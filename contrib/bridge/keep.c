@@ -1,4 +1,4 @@
-/* Files. Workers copy what is kept of a frame into rings, and one thread writes them: no disk delays a frame. */
+/* Files. Workers copy what is kept into rings, and one thread writes it: no disk delays a frame. */
 #include "norm-bridge.h"
 #include <fcntl.h>
 #include <sys/stat.h>
@@ -71,7 +71,7 @@ static const char *time_word(void) {
     return word;
 }
 
-/* Opens the next file of a kind. Returns why it cannot be written, or NULL. An older report is moved aside. */
+/* Opens the next file of a kind; moves an older report aside. Returns why it cannot, or NULL. */
 static const char *open_file(struct worker *w, struct kept *kept, int i, const char *mark) {
     static const char *const kinds[] = {"in", "out", "report"};
     struct file *file = &kept->files[i];
@@ -139,7 +139,7 @@ static void begin_files(struct worker *w, struct kept *kept, const char *mark) {
         (uintmax_t)GET(w->counts[OF_FILES][LOST]));
 }
 
-/* Writes what a ring has, if its file is open. Returns false if that fails; a full disk may take a part. */
+/* Writes what a ring has, if its file is open. Returns false if that fails, maybe after a part. */
 static bool write_ring(struct file *file, size_t head) {
     size_t tail = file->tail;
     while (tail != head && file->fd >= 0) {
@@ -151,7 +151,7 @@ static bool write_ring(struct file *file, size_t head) {
     return true;
 }
 
-/* Writes what a worker has put into the rings of these files. Returns whether that was something. */
+/* Writes what a worker has put into the rings of these files. Returns whether it was any. */
 static bool write_files(struct worker *w, struct kept *kept) {
     uint64_t frames = atomic_load(&kept->frames);
     bool due = kept->first == KEPT_IN && time(NULL) >= kept->since + HOUR, more = false;

@@ -8,11 +8,11 @@
 #include <net/if_arp.h>
 #include <sys/mman.h>
 
-/* Octets of the rings of one interface, of one ring at least, and of a slot before and after the packet. */
+/* Octets of an interface's rings, of one ring at least, and of a slot around the packet. */
 enum { RINGS = 64 << 20, LEAST_RING = 4 << 20, BLOCK = 1 << 17, SLOT_HEAD = 80, LINK_HEADS = 18 };
 static const struct sock_fprog nothing = {1, (struct sock_filter[]){BPF_STMT(BPF_RET | BPF_K, 0)}};
 
-/* Reads a link's state and MTU. Refuses a port of another bridge, and an address: ways that norm does not see. */
+/* Reads a link's state and MTU. Refuses a bridge's port and an address: ways past norm. */
 static void judge(struct side *side, const struct nlmsghdr *answer) {
     const struct ifinfomsg *link = NLMSG_DATA(answer);
     const struct ifaddrmsg *address = NLMSG_DATA(answer);
@@ -54,7 +54,7 @@ static void set(int socket, int level, int option, const void *value, size_t siz
         fail(2, "option %d of a socket: %s", option, strerror(errno));
 }
 
-/* A worker's frames are those with its number as inside address modulo workers; the first has all without one. */
+/* A worker has the frames whose inside address modulo workers is its number; the first the rest. */
 void set_filters(bool receive) {
     for (uint64_t j = 0; j < options.jobs; j++)
         for (int k = 0; k < SIDES; k++) {

@@ -42,7 +42,7 @@ bool is_first_end(int how) { return atomic_compare_exchange_strong(&status, &(in
 
 bool is_ending(void) { return atomic_load(&status) >= 0; }
 
-/* Prepares signals. Descriptors 0 to 2 are opened first, so that no other file becomes one of them. */
+/* Prepares signals. Opens descriptors 0 to 2 first, so that no other file becomes one of them. */
 static void begin_signals(void) {
     static const int ignored[] = {SIGPIPE, SIGHUP, SIGXFSZ}, taken[] = {SIGINT, SIGTERM, SIGUSR1};
     int opened;
@@ -112,7 +112,7 @@ static void print_counts(void) {
     say("%s", line);
 }
 
-/* Waits for a signal, for some time at most. The first one that ends the bridge has it finish its work. */
+/* Waits for a signal, for some time at most. After the first that ends it, work is finished. */
 void wait_once(void) {
     int one = sigtimedwait(&heard, NULL, &(struct timespec){0, WAIT_NANOSECONDS});
     if (one == SIGUSR1) print_counts();
@@ -135,7 +135,7 @@ static void tick(void) {
     if (options.every > 0 && ++seconds % options.every == 0) print_counts();
 }
 
-/* Waits until so many of the other threads are so far. If the bridge is to end, they receive nothing any more. */
+/* Waits until that many other threads have come here. If the bridge ends, they receive nothing. */
 static void wait_for(const atomic_uint *threads, uint64_t wanted) {
     while (atomic_load(threads) < wanted) {
         wait_once();

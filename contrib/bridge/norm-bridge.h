@@ -16,7 +16,7 @@
 enum { SIDES = 2, FATES = NORM_TRUNCATED + 1, VERDICTS = NORM_DROP + 1, JOBS = 64 };
 /* Frames that are read or sent at once, and octets of a frame at most. */
 enum { BATCH = 64, LONGEST = 65549, COPIES = 1 << 20 };
-/* What is counted: of each side, first its frames by fate, of norm, first its records by verdict, and of files. */
+/* What is counted: of each side (frames by fate first), of norm (verdicts first), and of files. */
 enum { RECEIVED, FATE, SENT = FATE + FATES, FAILED, KERNEL, COUNTS };
 enum { WROTE, VERDICT, MICROSECONDS = VERDICT + VERDICTS, LOST = 0 };
 enum { OF_NORM = SIDES, OF_FILES, COUNTED };
@@ -47,7 +47,7 @@ struct taken {
     struct norm_answer answer;
 };
 
-/* Files that begin and end together, those of --keep or the report, and what is to be written to them. */
+/* Files that begin and end together, of --keep or the report, and what is to be written. */
 struct kept {
     const char *name;
     int first;
@@ -59,7 +59,7 @@ struct kept {
     unsigned part;
     int64_t since, retry;
     char run[32];
-    /* A ring holds what its worker has put from `tail` to `head`; to `end` it has a part of a frame. */
+    /* A ring holds what its worker put from `tail` to `head`, and to `end` a part of a frame. */
     struct file {
         uint8_t *ring;
         size_t end;
@@ -97,7 +97,7 @@ extern struct side {
 } sides[SIDES];
 extern struct worker workers[JOBS];
 
-/* norm-bridge.c: `fail` ends the program; `end_bridge` has the main thread end it, and prints the first reason. */
+/* norm-bridge.c: `fail` ends the program; `end_bridge` has the main thread end it, with a reason. */
 #define fail(status, ...) (say(__VA_ARGS__), exit(status))
 #define end_bridge(status, ...) (is_first_end(status) ? say(__VA_ARGS__) : (void)0)
 extern atomic_uint ready, stopping, ended, written;
@@ -110,7 +110,7 @@ uint64_t now_of(clockid_t clock);
 extern char *engine_words;
 void read_words(int count, char **words), make_engine_words(void);
 
-/* links.c: `set_filters` has the sockets receive nothing, or those of each worker the frames of its hosts. */
+/* links.c: `set_filters` has sockets receive nothing, or each worker's the frames of its hosts. */
 void open_sides(void), warn_of_sides(void), set_filters(bool receive);
 
 /* keep.c: a frame that was judged or, without one, an engine's end. */

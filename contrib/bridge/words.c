@@ -106,7 +106,7 @@ static const char *norm_value(const char *option) {
     return NULL;
 }
 
-/* Adds an engine's share of a table, and at least what norm takes. What norm refuses it refuses itself. */
+/* Adds an engine's share of a table, and at least what norm takes, which refuses what is wrong. */
 static void add_share(FILE *text, const struct shared *table) {
     const char *given = norm_value(table->name);
     uint64_t all = given ? strtoull(given, NULL, 10) : table->usual, share = all / options.jobs;

@@ -1,13 +1,13 @@
 /* A worker: the path of a frame from a ring to the engine, and from there to an interface. */
 #include "norm-bridge.h"
 
-/* How often, and after which nanoseconds, a full send queue is tried again; and how long frames are waited for. */
+/* How often and when a full send queue is tried again, and how long frames are waited for. */
 enum { SEND_TRIES = 25, SEND_PAUSE = 200000, WAIT_MILLISECONDS = 50 };
 
 atomic_uint ready, stopping, ended;
 static atomic_bool warned;
 
-/* Sends the frames that leave by a port. A full queue is waited for once, 5 ms; then frames have failed. */
+/* Sends frames by a port. A full queue is waited for once, 5 ms; then frames have failed. */
 static void flush(struct worker *w, int k) {
     struct port *to = &w->ports[k];
     for (unsigned done = 0, tries = 0; done < to->filled;) {
@@ -51,7 +51,7 @@ static void pass_by(struct taken *read) {
     read->answer = (struct norm_answer){.fate = fate, .frames = passes, .port = !arrival->port, .as_read = passes};
 }
 
-/* Judges a frame. Returns false if the bridge ends. An engine takes 2^32 - 1 records: a new one follows it. */
+/* Judges a frame. Returns false if the bridge ends. A new engine follows one that is full. */
 static bool judge(struct worker *w, struct taken *read) {
     uint32_t result = norm_step(&w->engine, &read->arrival, read->octets, read->size, &read->answer);
     if (result == NORM_FULL) {
