@@ -97,7 +97,7 @@ extern struct side {
 } sides[SIDES];
 extern struct worker workers[JOBS];
 
-/* norm-bridge.c: `fail` ends the program; `end_bridge` has the main thread end it, with a reason. */
+/* norm-bridge.c: `fail` ends the program; `end_bridge` has the main thread end it, and why. */
 #define fail(status, ...) (say(__VA_ARGS__), exit(status))
 #define end_bridge(status, ...) (is_first_end(status) ? say(__VA_ARGS__) : (void)0)
 extern atomic_uint ready, stopping, ended, written;
