@@ -1,6 +1,6 @@
 -- Why words open no gate, and what a gate that they open is, for private functions (this project's
 -- profile).
-use Rattle.std.specs.Prelude.{◌≡◌, ℕ, List, false}
+use Rattle.std.specs.Prelude.{◌≡◌, ℕ, List, [], false}
 use Rattle.std.specs.Str.{IsUtf8}
 use Rattle.norm_settings.specs.AskedCommand.{asked}
 use Rattle.norm_settings.specs.OptionTable.{Text}
